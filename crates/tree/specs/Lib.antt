@@ -1,0 +1,9 @@
+pub mod Limits
+pub mod Ans
+pub mod Read
+pub mod Texts
+pub mod Exprs
+pub mod Stmts
+pub mod Decode
+pub mod Encode
+pub mod Fits
