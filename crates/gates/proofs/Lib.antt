@@ -1,0 +1,3 @@
+pub mod Keys
+pub mod Loops
+pub mod Lookup

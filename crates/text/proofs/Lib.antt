@@ -1,0 +1,3 @@
+pub mod Clamp
+pub mod Same
+pub mod Table

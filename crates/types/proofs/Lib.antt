@@ -1,0 +1,2 @@
+pub mod Arithmetic
+pub mod Tables
