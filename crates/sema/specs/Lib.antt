@@ -1,0 +1,9 @@
+pub mod Limits
+pub mod Messages
+pub mod Symbols
+pub mod Marks
+pub mod Constants
+pub mod Operands
+pub mod Exprs
+pub mod Stmts
+pub mod Keys

@@ -1,0 +1,1 @@
+// What `analyze` of sema.rs answers, as definitions on trees: see specs/.
