@@ -109,14 +109,14 @@ module _ (ss : Symbols) (fs : Table FunctionSig) where
     checkExpr (Expr.Index x i sp) =
         elim (get ss x) [ none ↦ untyped (error (Messages.notDeclared x) sp ∷ []) | some sym ↦ indexType x i sp sym (sym .kind) ]
     checkExpr (Expr.Call x args sp) =
-        elim (find fs x)
-        [ none ↦ untyped (error (Messages.functionNotDefined x) sp ∷ checkAll args)
-        | some sig ↦ record {
+        elim (find fs x) [
+          | none ↦ untyped (error (Messages.functionNotDefined x) sp ∷ checkAll args)
+          | some sig ↦ record {
             type = some (sig .return-type);
             says =
                 unless (eqb (count args) (length (sig .params)))
                 (errorWithNote (Messages.functionArguments x (length (sig .params)) (count args)) sp Messages.functionDefined (sig .decl-span))
-                ++ checkArguments args x 0 (sig .params)
+                ++ checkArguments args x 0 (sig .params);
           }
         ]
     checkExpr (Expr.Const c sp) = typed ClassicalType.Float

@@ -66,12 +66,12 @@ boundsSay op sym =
 
 unfoldable pub checkOperand : Symbols → GateOperand → Expected → List Diagnostic
 checkOperand ss op expected =
-    elim (get ss (op .name))
-    [ none ↦ error (Messages.notDeclared (op .name)) (op .span) ∷ []
-    | some sym ↦
-      unless (fits expected (sym .kind))
-      (errorWithNote (Messages.expectedKind expected (op .name) (sym .kind)) (op .span) (Messages.declaredAs (op .name) (sym .kind)) (sym .decl-span))
-      ++ boundsSay op sym
+    elim (get ss (op .name)) [
+      | none ↦ error (Messages.notDeclared (op .name)) (op .span) ∷ []
+      | some sym ↦
+          unless (fits expected (sym .kind))
+          (errorWithNote (Messages.expectedKind expected (op .name) (sym .kind)) (op .span) (Messages.declaredAs (op .name) (sym .kind)) (sym .decl-span))
+          ++ boundsSay op sym
     ]
 
 -- "An operand's width is end - start + 1, or 1 for an index, else the declared size or 1. Start > end, a width beyond 2^64 - 1 .. have no width"

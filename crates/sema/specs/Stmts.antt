@@ -135,14 +135,14 @@ unfoldable pub measureTarget : Symbols → GateOperand → Span → Option GateO
 measureTarget ss qubit sp none = []
 measureTarget ss qubit sp (some target) =
     checkOperand ss target aBit
-    ++ elim (operandWidth ss qubit)
-       [ none ↦ []
-       | some a ↦
-         elim (operandWidth ss target)
-         [ none ↦ []
-         | some b ↦ unless (eqb a b) (errorWithNote (Messages.measurementWidths a b) sp Messages.targetDeclared (target .span))
-         ]
-       ]
+    ++ elim (operandWidth ss qubit) [
+      | none ↦ []
+      | some a ↦
+          elim (operandWidth ss target) [
+            | none ↦ []
+            | some b ↦ unless (eqb a b) (errorWithNote (Messages.measurementWidths a b) sp Messages.targetDeclared (target .span))
+          ]
+    ]
 
 unfoldable pub measureSays : SemaContext → GateOperand → Option GateOperand → Span → List Diagnostic
 measureSays c qubit target sp =
@@ -168,7 +168,7 @@ defineGate x params qparams sp c =
       symbols = c .symbols;
       gates = insert (c .gates) x (record { param-count = length params; qubit-count = length qparams; decl-span = sp });
       functions = c .functions;
-      measured = c .measured
+      measured = c .measured;
     }
 
 unfoldable pub gateSays : SemaContext → TextNumber → Span → List Diagnostic
@@ -177,17 +177,17 @@ gateSays c x sp = unless (not (isSome (find (c .gates) x))) (error (Messages.gat
 -- of two functions of one name the first stays
 unfoldable pub defineFunction : TextNumber → List (ClassicalType × TextNumber) → ClassicalType → Span → Table FunctionSig → Table FunctionSig
 defineFunction x params return-type sp fs =
-    elim (find fs x)
-    [ none ↦ insert fs x (record { params = map (λ p. p .0) params; return-type = return-type; decl-span = sp })
-    | some previous ↦ fs
+    elim (find fs x) [
+      | none ↦ insert fs x (record { params = map (λ p. p .0) params; return-type = return-type; decl-span = sp })
+      | some previous ↦ fs
     ]
 
 unfoldable pub functionSays : SemaContext → TextNumber → List (ClassicalType × TextNumber) → ClassicalType → Expr → Span → List Diagnostic
 functionSays c x params return-type body sp =
     let a = checkExpr (functionScope params sp ∷ c .symbols) (defineFunction x params return-type sp (c .functions)) body in
-    elim (find (c .functions) x)
-    [ none ↦ []
-    | some previous ↦ errorWithNote (Messages.functionAlreadyDefined x) sp Messages.firstDefined (previous .decl-span) ∷ []
+    elim (find (c .functions) x) [
+      | none ↦ []
+      | some previous ↦ errorWithNote (Messages.functionAlreadyDefined x) sp Messages.firstDefined (previous .decl-span) ∷ []
     ]
     ++ (a .says ++ mismatch (λ actual. error (Messages.functionReturns x return-type actual) (exprSpan body)) return-type (a .type))
 
@@ -199,9 +199,9 @@ module _ (t : List Text) where
   -- "A definition of exactly that name goes before it"
   unfoldable pub signatureSays : SemaContext → TextNumber → Exprs → List GateModifier → List GateOperand → Span → List Diagnostic
   signatureSays c x params modifiers args sp =
-      elim (find (c .gates) x)
-      [ none ↦ standardSays x params modifiers args sp (signatureOf (map lower (getD t x [])))
-      | some sig ↦ aritySays x (sig .param-count) (sig .qubit-count) (some (sig .decl-span)) params modifiers args sp
+      elim (find (c .gates) x) [
+        | none ↦ standardSays x params modifiers args sp (signatureOf (map lower (getD t x [])))
+        | some sig ↦ aritySays x (sig .param-count) (sig .qubit-count) (some (sig .decl-span)) params modifiers args sp
       ]
 
   unfoldable pub gateCallSays : SemaContext → TextNumber → List GateModifier → Exprs → List GateOperand → Span → List Diagnostic
@@ -226,13 +226,15 @@ module _ (t : List Text) where
     analyzeStmt (Stmt.GateDef at x params qparams body sp) c =
         let w = analyzeStmts body (enter (gateScope params qparams sp) (defineGate x params qparams sp c)) in
         (leave c (w .0) (w .0 .measured), gateSays c x sp ++ w .1)
-    analyzeStmt (Stmt.FunctionDef at x params return-type body sp) c =
-        (record {
-          symbols = c .symbols;
-          gates = c .gates;
-          functions = defineFunction x params return-type sp (c .functions);
-          measured = c .measured
-        }, functionSays c x params return-type body sp)
+    analyzeStmt (Stmt.FunctionDef at x params return-type body sp) c = (
+      record {
+        symbols = c .symbols;
+        gates = c .gates;
+        functions = defineFunction x params return-type sp (c .functions);
+        measured = c .measured;
+      },
+      functionSays c x params return-type body sp,
+    )
     analyzeStmt (Stmt.Measure at qubit target sp) c = simple (Stmt.Measure at qubit target sp) sp c (measureSays c qubit target sp)
     analyzeStmt (Stmt.Reset at target sp) c = simple (Stmt.Reset at target sp) sp c (checkOperand (c .symbols) target aQubit)
     analyzeStmt (Stmt.Barrier at targets sp) c = simple (Stmt.Barrier at targets sp) sp c (useOperands (c .symbols) (c .measured) sp targets)

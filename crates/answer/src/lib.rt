@@ -1,0 +1,1 @@
+// The answer of a call as definitions: see specs/.

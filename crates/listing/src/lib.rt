@@ -1,0 +1,1 @@
+// The listing as definitions: see specs/.
