@@ -18,7 +18,7 @@ use Rattle.types.specs.Types.{assignableTo, arithmeticOf}
 use Rattle.types.specs.Names.{nameOf, typeNames, nameIn}
 use Rattle.gates.specs.Gates.{gates, lower, lookup, signatureOf}
 use Rattle.int128.specs.Whole.{magnitudeOf, limit, checked, quotient, divided, powered, positive, wordOf}
-use Rattle.sema.specs.Symbols.{find, get, getCurrent, declare, declareSays, declKind, after, insertAll, gateScope, functionScope, loopScope}
+use Rattle.sema.specs.Symbols.{insert, get, getCurrent, declare, declareSays, declKind, after, insertAll, gateScope, functionScope, loopScope}
 use Rattle.sema.specs.Marks.{inSlice, isIndex, sizeOf, belowSize, measures, resets, markMeasured, clearMeasured, effect, mark, apply, unite, afterLoop, lookupMeasured, firstCovered, smallestCovered}
 use Rattle.sema.specs.Constants.{within, divide, power, operate, evalConstInt, asCount, countOf, addCount, addControls, modifierControlCount, controls}
 use Rattle.sema.specs.Operands.{fits, isGateQubit, indexSays, sliceSays, boundsSay, checkOperand, sliceWidth, widthBy, operandWidth, usedSays, usedIndexSays, useBy, useOperands}
@@ -108,7 +108,7 @@ rows =
 
 -- a row as the definitions give it; text 1 is h, text 2 is x
 computed : Row → Row
-unfolding assignableTo arithmeticOf nameOf typeNames nameIn gates lower lookup signatureOf magnitudeOf limit checked quotient divided powered positive wordOf find get getCurrent declare declareSays declKind after insertAll gateScope functionScope loopScope inSlice isIndex sizeOf belowSize measures resets markMeasured clearMeasured effect mark apply unite afterLoop lookupMeasured firstCovered smallestCovered within divide power operate evalConstInt asCount countOf addCount addControls modifierControlCount controls fits isGateQubit indexSays sliceSays boundsSay checkOperand sliceWidth widthBy operandWidth usedSays usedIndexSays useBy useOperands exprSpan identType bitIndexType indexType negType arithmeticType compareType mismatch notNumeric argumentSays rest count checkExpr checkAll checkArguments requireType requireNumeric controlSays checkModifier checkModifiers initSays classicalSays assignSays targetSays assignmentSays aritySays paramsSay wide registerWidths allEqual widthsSay measureTarget measureSays stepSays rangeSays gateSays defineFunction functionSays standardSays signatureSays gateCallSays analyzeStmt analyzeStmts analyzeElse analyze sameIndex sameKey hasKey addKey addIndices addRange sizeOr0 addMeasured keysStmt keysStmts keysElse keys pow-int one-int
+unfolding assignableTo arithmeticOf nameOf typeNames nameIn gates lower lookup signatureOf magnitudeOf limit checked quotient divided powered positive wordOf insert get getCurrent declare declareSays declKind after insertAll gateScope functionScope loopScope inSlice isIndex sizeOf belowSize measures resets markMeasured clearMeasured effect mark apply unite afterLoop lookupMeasured firstCovered smallestCovered within divide power operate evalConstInt asCount countOf addCount addControls modifierControlCount controls fits isGateQubit indexSays sliceSays boundsSay checkOperand sliceWidth widthBy operandWidth usedSays usedIndexSays useBy useOperands exprSpan identType bitIndexType indexType negType arithmeticType compareType mismatch notNumeric argumentSays rest count checkExpr checkAll checkArguments requireType requireNumeric controlSays checkModifier checkModifiers initSays classicalSays assignSays targetSays assignmentSays aritySays paramsSay wide registerWidths allEqual widthsSay measureTarget measureSays stepSays rangeSays gateSays defineFunction functionSays standardSays signatureSays gateCallSays analyzeStmt analyzeStmts analyzeElse analyze sameIndex sameKey hasKey addKey addIndices addRange sizeOr0 addMeasured keysStmt keysStmts keysElse keys pow-int one-int
 computed r =
     record {
       program = r .program;

@@ -11,7 +11,7 @@ use Rattle.ast.specs.declared.ClassicalType.{ClassicalType}
 use Rattle.types.specs.Types.{numberOf, assignableTo, numeric, larger}
 use Rattle.sema.specs.Messages
 use Rattle.sema.specs.Messages.{SymbolKind, Qubit, Bit, Classical, Const, GateParam, GateQubit, Diagnostic, error, errorWithNote}
-use Rattle.sema.specs.Symbols.{Symbols, Symbol, FunctionSig, Table, find, get}
+use Rattle.sema.specs.Symbols.{Symbols, Symbol, FunctionSig, Table, get}
 use Rattle.int128.specs.Whole.{positive}
 use Rattle.sema.specs.Constants.{evalConstInt}
 use Rattle.sema.specs.Operands.{unless, isSome}
@@ -109,7 +109,7 @@ module _ (ss : Symbols) (fs : Table FunctionSig) where
     checkExpr (Expr.Index x i sp) =
         elim (get ss x) [ none ↦ untyped (error (Messages.notDeclared x) sp ∷ []) | some sym ↦ indexType x i sp sym (sym .kind) ]
     checkExpr (Expr.Call x args sp) =
-        elim (find fs x) [
+        elim (fs x) [
           | none ↦ untyped (error (Messages.functionNotDefined x) sp ∷ checkAll args)
           | some sig ↦ record {
             type = some (sig .return-type);

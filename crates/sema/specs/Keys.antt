@@ -7,7 +7,7 @@ use mathlib.Core.Bool.{Bool, true, false, _&&_, _||_}
 use lib.Dec.{eqb}
 use Rattle.ast.specs.Tree.{TextNumber, GateOperand, Stmt, Stmts, noStmt, moreStmt, Else, noElse, someElse, Program}
 use Rattle.sema.specs.Limits.{keyLimit}
-use Rattle.sema.specs.Symbols.{Symbols, get, after, gateScope, loopScope}
+use Rattle.sema.specs.Symbols.{Symbols, empty, get, after, gateScope, loopScope}
 use Rattle.sema.specs.Marks.{Key, key, sizeOf}
 
 unfoldable pub sameIndex : Option ℕ → Option ℕ → Bool
@@ -60,9 +60,9 @@ unfoldable mutual
   keysStmt (Stmt.Reset at target sp) ss ks = ks
   keysStmt (Stmt.Barrier at targets sp) ss ks = ks
   keysStmt (Stmt.Delay at duration targets sp) ss ks = ks
-  keysStmt (Stmt.If at condition then-body else-body sp) ss ks = keysElse else-body ss (keysStmts then-body ([] ∷ ss) ks)
+  keysStmt (Stmt.If at condition then-body else-body sp) ss ks = keysElse else-body ss (keysStmts then-body (empty ∷ ss) ks)
   keysStmt (Stmt.For at x ty range body sp) ss ks = keysStmts body (loopScope x ty sp ∷ ss) ks
-  keysStmt (Stmt.While at condition body sp) ss ks = keysStmts body ([] ∷ ss) ks
+  keysStmt (Stmt.While at condition body sp) ss ks = keysStmts body (empty ∷ ss) ks
 
   pub keysStmts : Stmts → Symbols → List Key → List Key
   keysStmts noStmt ss ks = ks
@@ -70,7 +70,7 @@ unfoldable mutual
 
   pub keysElse : Else → Symbols → List Key → List Key
   keysElse noElse ss ks = ks
-  keysElse (someElse body) ss ks = keysStmts body ([] ∷ ss) ks
+  keysElse (someElse body) ss ks = keysStmts body (empty ∷ ss) ks
 
 unfoldable pub keys : Program → List Key
-keys p = keysStmts (p .statements) ([] ∷ []) []
+keys p = keysStmts (p .statements) (empty ∷ []) []

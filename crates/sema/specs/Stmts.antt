@@ -16,7 +16,7 @@ use Rattle.gates.specs.Gates.{lower, signatureOf}
 use Rattle.gates.specs.declared.Signature.{Signature}
 use Rattle.sema.specs.Messages
 use Rattle.sema.specs.Messages.{SymbolKind, Qubit, Bit, Classical, Const, GateParam, GateQubit, aQubit, aBit, Diagnostic, error, errorWithNote, warning}
-use Rattle.sema.specs.Symbols.{Symbols, Scope, Symbol, GateSig, FunctionSig, Table, find, insert, get, declareSays, declKind, after, gateScope, functionScope, loopScope}
+use Rattle.sema.specs.Symbols.{Symbols, Scope, Symbol, GateSig, FunctionSig, Table, empty, insert, get, declareSays, declKind, after, gateScope, functionScope, loopScope}
 use Rattle.sema.specs.Marks.{Marks, noMarks, effect, apply, unite, afterLoop, lookupMeasured}
 use Rattle.sema.specs.Constants.{controls}
 use Rattle.sema.specs.Operands.{isSome, unless, checkOperand, operandWidth, useOperands}
@@ -33,7 +33,7 @@ abbrev pub Walked : Type 0
 Walked = SemaContext × List Diagnostic
 
 abbrev pub new : SemaContext
-new = record { symbols = [] ∷ []; gates = []; functions = []; measured = noMarks }
+new = record { symbols = empty ∷ []; gates = empty; functions = empty; measured = noMarks }
 
 -- into a body: a scope more
 abbrev pub enter : Scope → SemaContext → SemaContext
@@ -172,12 +172,12 @@ defineGate x params qparams sp c =
     }
 
 unfoldable pub gateSays : SemaContext → TextNumber → Span → List Diagnostic
-gateSays c x sp = unless (not (isSome (find (c .gates) x))) (error (Messages.gateAlreadyDefined x) sp)
+gateSays c x sp = unless (not (isSome (c .gates x))) (error (Messages.gateAlreadyDefined x) sp)
 
 -- of two functions of one name the first stays
 unfoldable pub defineFunction : TextNumber → List (ClassicalType × TextNumber) → ClassicalType → Span → Table FunctionSig → Table FunctionSig
 defineFunction x params return-type sp fs =
-    elim (find fs x) [
+    elim (fs x) [
       | none ↦ insert fs x (record { params = map (λ p. p .0) params; return-type = return-type; decl-span = sp })
       | some previous ↦ fs
     ]
@@ -185,7 +185,7 @@ defineFunction x params return-type sp fs =
 unfoldable pub functionSays : SemaContext → TextNumber → List (ClassicalType × TextNumber) → ClassicalType → Expr → Span → List Diagnostic
 functionSays c x params return-type body sp =
     let a = checkExpr (functionScope params sp ∷ c .symbols) (defineFunction x params return-type sp (c .functions)) body in
-    elim (find (c .functions) x) [
+    elim (c .functions x) [
       | none ↦ []
       | some previous ↦ errorWithNote (Messages.functionAlreadyDefined x) sp Messages.firstDefined (previous .decl-span) ∷ []
     ]
@@ -199,7 +199,7 @@ module _ (t : List Text) where
   -- "A definition of exactly that name goes before it"
   unfoldable pub signatureSays : SemaContext → TextNumber → Exprs → List GateModifier → List GateOperand → Span → List Diagnostic
   signatureSays c x params modifiers args sp =
-      elim (find (c .gates) x) [
+      elim (c .gates x) [
         | none ↦ standardSays x params modifiers args sp (signatureOf (map lower (getD t x [])))
         | some sig ↦ aritySays x (sig .param-count) (sig .qubit-count) (some (sig .decl-span)) params modifiers args sp
       ]
@@ -242,14 +242,14 @@ module _ (t : List Text) where
         simple (Stmt.Delay at duration targets sp) sp c
         (requireNumeric (c .symbols) (c .functions) duration Messages.delayNumeric ++ useOperands (c .symbols) (c .measured) sp targets)
     analyzeStmt (Stmt.If at condition then-body else-body sp) c =
-        let a = analyzeStmts then-body (enter [] c) in
+        let a = analyzeStmts then-body (enter empty c) in
         let b = analyzeElse else-body c (a .0) in
         (b .0, requireType (c .symbols) (c .functions) condition ClassicalType.Bool Messages.ifCondition ++ (a .1 ++ b .1))
     analyzeStmt (Stmt.For at x ty range body sp) c =
         let w = analyzeStmts body (enter (loopScope x ty sp) c) in
         (leave c (w .0) (afterLoop (c .measured) (w .0 .measured)), rangeSays c ty range sp ++ w .1)
     analyzeStmt (Stmt.While at condition body sp) c =
-        let w = analyzeStmts body (enter [] c) in
+        let w = analyzeStmts body (enter empty c) in
         (leave c (w .0) (afterLoop (c .measured) (w .0 .measured)), requireType (c .symbols) (c .functions) condition ClassicalType.Bool Messages.whileCondition ++ w .1)
 
     pub analyzeStmts : Stmts → SemaContext → Walked
@@ -264,7 +264,7 @@ module _ (t : List Text) where
     pub analyzeElse : Else → SemaContext → SemaContext → Walked
     analyzeElse noElse c i = (leave c i (unite (c .measured) (i .measured)), [])
     analyzeElse (someElse body) c i =
-        let w = analyzeStmts body (enter [] (leave c i (c .measured))) in
+        let w = analyzeStmts body (enter empty (leave c i (c .measured))) in
         (leave c (w .0) (unite (i .measured) (w .0 .measured)), w .1)
 
 unfoldable pub analyze : Program → List Diagnostic

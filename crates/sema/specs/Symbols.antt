@@ -1,5 +1,5 @@
 -- Scopes and their symbols, gates and functions, as `SymbolTable` and the maps of `SemaContext` in src/sema.rs.
--- The scopes are listed from the innermost out; what is inserted last stands first and hides what was there.
+-- The scopes are listed from the innermost out.
 use Prim.Native.Nat.{ℕ}
 use mathlib.Core.List.{List, [], _∷_, map}
 use mathlib.Core.Option.{Option, none, some}
@@ -26,17 +26,16 @@ pub record FunctionSig : Type 0 where
   pub return-type : ClassicalType
   pub decl-span : Span
 
--- a map from names, as a list of its entries
+-- a map from names
 abbrev pub Table : Type 0 → Type 0
-Table A = List (TextNumber × A)
+Table A = TextNumber → Option A
 
--- the entry of a name: the first
-unfoldable pub find : {A : Type 0} → Table A → TextNumber → Option A
-find [] x = none
-find (e ∷ es) x = cond (eqb (e .0) x) (some (e .1)) (find es x)
+abbrev pub empty : {A : Type 0} → Table A
+empty x = none
 
-abbrev pub insert : {A : Type 0} → Table A → TextNumber → A → Table A
-insert es x a = (x, a) ∷ es
+-- what a name has after it was given an entry
+unfoldable pub insert : {A : Type 0} → Table A → TextNumber → A → Table A
+insert s x a y = cond (eqb x y) (some a) (s y)
 
 abbrev pub Scope : Type 0
 Scope = Table Symbol
@@ -50,14 +49,14 @@ orElse (some a) b = some a
 
 unfoldable pub get : Symbols → TextNumber → Option Symbol
 get [] x = none
-get (s ∷ ss) x = orElse (find s x) (get ss x)
+get (s ∷ ss) x = orElse (s x) (get ss x)
 
 unfoldable pub getCurrent : Symbols → TextNumber → Option Symbol
 getCurrent [] x = none
-getCurrent (s ∷ ss) x = find s x
+getCurrent (s ∷ ss) x = s x
 
 abbrev pub insertCurrent : Symbols → TextNumber → Symbol → Symbols
-insertCurrent [] x sym = ((x, sym) ∷ []) ∷ []
+insertCurrent [] x sym = insert empty x sym ∷ []
 insertCurrent (s ∷ ss) x sym = insert s x sym ∷ ss
 
 -- the first declaration of a scope stays
@@ -95,7 +94,7 @@ after ss (Stmt.If at condition then-body else-body sp) = ss
 after ss (Stmt.For at x ty range body sp) = ss
 after ss (Stmt.While at condition body sp) = ss
 
--- inserted one after the other, so that the last of a name hides the others
+-- inserted one after the other: the last of a name stays
 unfoldable pub insertAll : Scope → List (TextNumber × Symbol) → Scope
 insertAll s [] = s
 insertAll s (e ∷ es) = insertAll (insert s (e .0) (e .1)) es
@@ -106,12 +105,12 @@ plain kind sp = record { kind = kind; size = none; decl-span = sp }
 -- the scope that a gate's body begins with: parameters, then qubits
 unfoldable pub gateScope : List TextNumber → List TextNumber → Span → Scope
 gateScope params qparams sp =
-    insertAll (insertAll [] (map (λ x. (x, plain GateParam sp)) params)) (map (λ x. (x, plain GateQubit sp)) qparams)
+    insertAll (insertAll empty (map (λ x. (x, plain GateParam sp)) params)) (map (λ x. (x, plain GateQubit sp)) qparams)
 
 -- the scope of a function's body
 unfoldable pub functionScope : List (ClassicalType × TextNumber) → Span → Scope
-functionScope params sp = insertAll [] (map (λ p. (p .1, plain (Classical (p .0)) sp)) params)
+functionScope params sp = insertAll empty (map (λ p. (p .1, plain (Classical (p .0)) sp)) params)
 
 -- the scope of a `for` body: the loop variable
 unfoldable pub loopScope : TextNumber → ClassicalType → Span → Scope
-loopScope x ty sp = (x, plain (Classical ty) sp) ∷ []
+loopScope x ty sp = insert empty x (plain (Classical ty) sp)
