@@ -37,3 +37,18 @@ refuse number place = λ s at. refused number place
 unfoldable pub check : Bool → ℕ → ℕ → Reader (Unit {0})
 check true number place = done tt
 check false number place = refuse number place
+
+-- the answer is a value
+unfoldable pub IsOk : {A : Type 0} → Ans A → Type 0
+IsOk (ok a next) = Unit {0}
+IsOk (refused number place) = ⊥
+
+-- the place past the value
+unfoldable pub nextOf : {A : Type 0} → Ans A → ℕ
+nextOf (ok a next) = next
+nextOf (refused number place) = 0
+
+-- what f makes of the value; the first argument stands in where there is none
+unfoldable pub given : {A B : Type 0} → B → (A → B) → Ans A → B
+given b f (ok a next) = f a
+given b f (refused number place) = b

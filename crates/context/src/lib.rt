@@ -1,0 +1,72 @@
+// The values that the walk over a tree passes around, as the code holds them.
+use ast::ClassicalType;
+use span::Span;
+
+// An Option of a number.
+pub enum Number {
+    Some(u64),
+    None,
+}
+
+// An Option of the two ends of a slice.
+pub enum Ends {
+    Some(u64, u64),
+    None,
+}
+
+pub struct GateOperand {
+    pub name: usize,
+    pub index: Number,
+    pub slice: Ends,
+    pub span: Span,
+}
+
+pub enum SymbolKind {
+    Qubit,
+    Bit,
+    Classical(ClassicalType),
+    Const(ClassicalType),
+    GateParam,
+    GateQubit,
+}
+
+pub struct Symbol {
+    pub kind: SymbolKind,
+    pub size: Number,
+    pub decl_span: Span,
+}
+
+pub enum FoundSymbol {
+    Some(Symbol),
+    None,
+}
+
+pub struct GateSig {
+    pub param_count: usize,
+    pub qubit_count: usize,
+    pub decl_span: Span,
+}
+
+pub enum FoundGate {
+    Some(GateSig),
+    None,
+}
+
+// The types of the parameters are read one by one.
+pub struct FunctionSig {
+    pub param_count: usize,
+    pub return_type: ClassicalType,
+    pub decl_span: Span,
+}
+
+pub enum FoundFunction {
+    Some(FunctionSig),
+    None,
+}
+
+// How far the listing is: its length, and the diagnostics in it.
+pub struct Sink {
+    pub n: usize,
+    pub errors: usize,
+    pub warnings: usize,
+}
