@@ -133,56 +133,63 @@ module _ (t : List Text) where
   unfoldable pub operandText : GateOperand → List ℕ
   operandText op = concat (nameAt (op .name) ∷ subscript (op .index) (op .slice) ∷ [])
 
-  unfoldable pub messageText : Message → List ℕ
-  messageText (alreadyDeclared x) = concat (text "`" ∷ nameAt x ∷ text "` is already declared in this scope" ∷ [])
-  messageText (notDeclared x) = concat (text "`" ∷ nameAt x ∷ text "` is not declared" ∷ [])
-  messageText (expectedKind e x k) = concat (text "expected " ∷ expectedName e ∷ text ", but `" ∷ nameAt x ∷ text "` is a " ∷ kindName k ∷ [])
-  messageText (cannotIndexGateQubit x) = concat (text "cannot index gate qubit `" ∷ nameAt x ∷ text "` — gate qubits are single wires" ∷ [])
-  messageText (indexOutOfBounds i x n) = concat (text "index " ∷ decimal i ∷ text " is out of bounds for `" ∷ nameAt x ∷ text "` (size " ∷ decimal n ∷ text ")" ∷ [])
-  messageText (cannotIndex x) = concat (text "cannot index `" ∷ nameAt x ∷ text "` — it is a single qubit/bit, not a register" ∷ [])
-  messageText (sliceOutOfBounds a b x n) = concat (text "slice " ∷ decimal a ∷ text ":" ∷ decimal b ∷ text " is out of bounds for `" ∷ nameAt x ∷ text "` (size " ∷ decimal n ∷ text ")" ∷ [])
-  messageText (cannotSlice x) = concat (text "cannot slice scalar `" ∷ nameAt x ∷ text "`" ∷ [])
-  messageText (usedIndex x i) = concat (text "use of qubit `" ∷ nameAt x ∷ text "[" ∷ decimal i ∷ text "]` after measurement" ∷ [])
-  messageText (used op) = concat (text "use of qubit `" ∷ operandText op ∷ text "` after measurement — qubit state has collapsed and cannot be used in a gate without an explicit `reset`" ∷ [])
-  messageText (constWithoutInit x) = concat (text "const `" ∷ nameAt x ∷ text "` requires an initializer" ∷ [])
-  messageText (inputWithInit x) = concat (text "input `" ∷ nameAt x ∷ text "` cannot have an initializer" ∷ [])
-  messageText (cannotInitialize ty x a) = concat (text "cannot initialize " ∷ nameOf ty ∷ text " `" ∷ nameAt x ∷ text "` with " ∷ nameOf a ∷ text " expression" ∷ [])
-  messageText (cannotAssign a e x) = concat (text "cannot assign " ∷ nameOf a ∷ text " expression to " ∷ nameOf e ∷ text " `" ∷ nameAt x ∷ text "`" ∷ [])
-  messageText compoundNumeric = text "compound assignment requires numeric operands"
-  messageText (assignToConst x) = concat (text "cannot assign to const `" ∷ nameAt x ∷ text "`" ∷ [])
-  messageText (notAssignable x) = concat (text "`" ∷ nameAt x ∷ text "` is not an assignable classical variable" ∷ [])
-  messageText (gateParams x n got) = concat (text "gate `" ∷ nameAt x ∷ text "` expects " ∷ decimal n ∷ text " parameter(s), got " ∷ decimal got ∷ [])
-  messageText (gateQubits x n got) = concat (text "gate `" ∷ nameAt x ∷ text "` expects " ∷ decimal n ∷ text " qubit(s) after modifiers, got " ∷ decimal got ∷ [])
-  messageText (gateNotDefined x) = concat (text "gate `" ∷ nameAt x ∷ text "` is not defined" ∷ [])
-  messageText paramsNumeric = text "gate parameters must be numeric"
-  messageText broadcasting = text "gate register operands must have the same length for broadcasting"
-  messageText (gateAlreadyDefined x) = concat (text "gate `" ∷ nameAt x ∷ text "` is already defined" ∷ [])
-  messageText (functionAlreadyDefined x) = concat (text "function `" ∷ nameAt x ∷ text "` is already defined" ∷ [])
-  messageText (functionReturns x r a) = concat (text "function `" ∷ nameAt x ∷ text "` returns " ∷ nameOf r ∷ text ", but its body has type " ∷ nameOf a ∷ [])
-  messageText (measurementWidths a b) = concat (text "measurement source has " ∷ decimal a ∷ text " qubit(s), but target has " ∷ decimal b ∷ text " bit(s)" ∷ [])
-  messageText (alreadyMeasured op) = concat (text "qubit `" ∷ operandText op ∷ text "` has already been measured" ∷ [])
-  messageText delayNumeric = text "delay duration must be numeric"
-  messageText forVariable = text "for-loop variable must have type int"
-  messageText controlCount = text "control count must be a positive compile-time integer"
-  messageText powerNumeric = text "power modifier argument must be numeric"
-  messageText (mustHaveType c e a) = concat (contextName c ∷ text " must have type " ∷ nameOf e ∷ text ", found " ∷ nameOf a ∷ [])
-  messageText (notClassical x) = concat (text "`" ∷ nameAt x ∷ text "` cannot be used as a classical expression" ∷ [])
-  messageText (cannotIndexBit x) = concat (text "cannot index scalar bit `" ∷ nameAt x ∷ text "`" ∷ [])
-  messageText (notIndexable x) = concat (text "`" ∷ nameAt x ∷ text "` is not an indexable classical register" ∷ [])
-  messageText (functionNotDefined x) = concat (text "function `" ∷ nameAt x ∷ text "` is not defined" ∷ [])
-  messageText (functionArguments x n got) = concat (text "function `" ∷ nameAt x ∷ text "` expects " ∷ decimal n ∷ text " argument(s), got " ∷ decimal got ∷ [])
-  messageText (argumentType i x e a) = concat (text "argument " ∷ decimal i ∷ text " to `" ∷ nameAt x ∷ text "` must be " ∷ nameOf e ∷ text ", found " ∷ nameOf a ∷ [])
-  messageText negationNumeric = text "unary negation requires a numeric operand"
-  messageText arithmeticNumeric = text "arithmetic operators require numeric operands"
-  messageText comparisonTypes = text "comparison operands have incompatible types"
+  -- the pieces of a message, one after the other
+  unfoldable pub messageParts : Message → List (List ℕ)
+  messageParts (alreadyDeclared x) = text "`" ∷ nameAt x ∷ text "` is already declared in this scope" ∷ []
+  messageParts (notDeclared x) = text "`" ∷ nameAt x ∷ text "` is not declared" ∷ []
+  messageParts (expectedKind e x k) = text "expected " ∷ expectedName e ∷ text ", but `" ∷ nameAt x ∷ text "` is a " ∷ kindName k ∷ []
+  messageParts (cannotIndexGateQubit x) = text "cannot index gate qubit `" ∷ nameAt x ∷ text "` — gate qubits are single wires" ∷ []
+  messageParts (indexOutOfBounds i x n) = text "index " ∷ decimal i ∷ text " is out of bounds for `" ∷ nameAt x ∷ text "` (size " ∷ decimal n ∷ text ")" ∷ []
+  messageParts (cannotIndex x) = text "cannot index `" ∷ nameAt x ∷ text "` — it is a single qubit/bit, not a register" ∷ []
+  messageParts (sliceOutOfBounds a b x n) = text "slice " ∷ decimal a ∷ text ":" ∷ decimal b ∷ text " is out of bounds for `" ∷ nameAt x ∷ text "` (size " ∷ decimal n ∷ text ")" ∷ []
+  messageParts (cannotSlice x) = text "cannot slice scalar `" ∷ nameAt x ∷ text "`" ∷ []
+  messageParts (usedIndex x i) = text "use of qubit `" ∷ nameAt x ∷ text "[" ∷ decimal i ∷ text "]` after measurement" ∷ []
+  messageParts (used op) = text "use of qubit `" ∷ operandText op ∷ text "` after measurement — qubit state has collapsed and cannot be used in a gate without an explicit `reset`" ∷ []
+  messageParts (constWithoutInit x) = text "const `" ∷ nameAt x ∷ text "` requires an initializer" ∷ []
+  messageParts (inputWithInit x) = text "input `" ∷ nameAt x ∷ text "` cannot have an initializer" ∷ []
+  messageParts (cannotInitialize ty x a) = text "cannot initialize " ∷ nameOf ty ∷ text " `" ∷ nameAt x ∷ text "` with " ∷ nameOf a ∷ text " expression" ∷ []
+  messageParts (cannotAssign a e x) = text "cannot assign " ∷ nameOf a ∷ text " expression to " ∷ nameOf e ∷ text " `" ∷ nameAt x ∷ text "`" ∷ []
+  messageParts compoundNumeric = text "compound assignment requires numeric operands" ∷ []
+  messageParts (assignToConst x) = text "cannot assign to const `" ∷ nameAt x ∷ text "`" ∷ []
+  messageParts (notAssignable x) = text "`" ∷ nameAt x ∷ text "` is not an assignable classical variable" ∷ []
+  messageParts (gateParams x n got) = text "gate `" ∷ nameAt x ∷ text "` expects " ∷ decimal n ∷ text " parameter(s), got " ∷ decimal got ∷ []
+  messageParts (gateQubits x n got) = text "gate `" ∷ nameAt x ∷ text "` expects " ∷ decimal n ∷ text " qubit(s) after modifiers, got " ∷ decimal got ∷ []
+  messageParts (gateNotDefined x) = text "gate `" ∷ nameAt x ∷ text "` is not defined" ∷ []
+  messageParts paramsNumeric = text "gate parameters must be numeric" ∷ []
+  messageParts broadcasting = text "gate register operands must have the same length for broadcasting" ∷ []
+  messageParts (gateAlreadyDefined x) = text "gate `" ∷ nameAt x ∷ text "` is already defined" ∷ []
+  messageParts (functionAlreadyDefined x) = text "function `" ∷ nameAt x ∷ text "` is already defined" ∷ []
+  messageParts (functionReturns x r a) = text "function `" ∷ nameAt x ∷ text "` returns " ∷ nameOf r ∷ text ", but its body has type " ∷ nameOf a ∷ []
+  messageParts (measurementWidths a b) = text "measurement source has " ∷ decimal a ∷ text " qubit(s), but target has " ∷ decimal b ∷ text " bit(s)" ∷ []
+  messageParts (alreadyMeasured op) = text "qubit `" ∷ operandText op ∷ text "` has already been measured" ∷ []
+  messageParts delayNumeric = text "delay duration must be numeric" ∷ []
+  messageParts forVariable = text "for-loop variable must have type int" ∷ []
+  messageParts controlCount = text "control count must be a positive compile-time integer" ∷ []
+  messageParts powerNumeric = text "power modifier argument must be numeric" ∷ []
+  messageParts (mustHaveType c e a) = contextName c ∷ text " must have type " ∷ nameOf e ∷ text ", found " ∷ nameOf a ∷ []
+  messageParts (notClassical x) = text "`" ∷ nameAt x ∷ text "` cannot be used as a classical expression" ∷ []
+  messageParts (cannotIndexBit x) = text "cannot index scalar bit `" ∷ nameAt x ∷ text "`" ∷ []
+  messageParts (notIndexable x) = text "`" ∷ nameAt x ∷ text "` is not an indexable classical register" ∷ []
+  messageParts (functionNotDefined x) = text "function `" ∷ nameAt x ∷ text "` is not defined" ∷ []
+  messageParts (functionArguments x n got) = text "function `" ∷ nameAt x ∷ text "` expects " ∷ decimal n ∷ text " argument(s), got " ∷ decimal got ∷ []
+  messageParts (argumentType i x e a) = text "argument " ∷ decimal i ∷ text " to `" ∷ nameAt x ∷ text "` must be " ∷ nameOf e ∷ text ", found " ∷ nameOf a ∷ []
+  messageParts negationNumeric = text "unary negation requires a numeric operand" ∷ []
+  messageParts arithmeticNumeric = text "arithmetic operators require numeric operands" ∷ []
+  messageParts comparisonTypes = text "comparison operands have incompatible types" ∷ []
 
-  unfoldable pub noteText : Note → List ℕ
-  noteText (firstDeclared x) = concat (text "`" ∷ nameAt x ∷ text "` first declared here" ∷ [])
-  noteText (declaredAs x k) = concat (text "`" ∷ nameAt x ∷ text "` declared as " ∷ kindName k ∷ text " here" ∷ [])
-  noteText (declaredWithSize x n) = concat (text "`" ∷ nameAt x ∷ text "` declared with size " ∷ decimal n ∷ text " here" ∷ [])
-  noteText (declaredWithoutSize x) = concat (text "`" ∷ nameAt x ∷ text "` declared without a size here" ∷ [])
-  noteText measuredHere = text "qubit was measured here"
-  noteText (definedHere x) = concat (text "`" ∷ nameAt x ∷ text "` defined here" ∷ [])
-  noteText firstDefined = text "first defined here"
-  noteText targetDeclared = text "measurement target declared here"
-  noteText functionDefined = text "function defined here"
+  abbrev pub messageText : Message → List ℕ
+  messageText m = concat (messageParts m)
+
+  unfoldable pub noteParts : Note → List (List ℕ)
+  noteParts (firstDeclared x) = text "`" ∷ nameAt x ∷ text "` first declared here" ∷ []
+  noteParts (declaredAs x k) = text "`" ∷ nameAt x ∷ text "` declared as " ∷ kindName k ∷ text " here" ∷ []
+  noteParts (declaredWithSize x n) = text "`" ∷ nameAt x ∷ text "` declared with size " ∷ decimal n ∷ text " here" ∷ []
+  noteParts (declaredWithoutSize x) = text "`" ∷ nameAt x ∷ text "` declared without a size here" ∷ []
+  noteParts measuredHere = text "qubit was measured here" ∷ []
+  noteParts (definedHere x) = text "`" ∷ nameAt x ∷ text "` defined here" ∷ []
+  noteParts firstDefined = text "first defined here" ∷ []
+  noteParts targetDeclared = text "measurement target declared here" ∷ []
+  noteParts functionDefined = text "function defined here" ∷ []
+
+  abbrev pub noteText : Note → List ℕ
+  noteText n = concat (noteParts n)
