@@ -1,3 +1,4 @@
 pub mod Listing
 pub mod Cut
 pub mod CutLines
+pub mod Apart

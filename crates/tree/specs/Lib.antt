@@ -7,3 +7,4 @@ pub mod Stmts
 pub mod Decode
 pub mod Encode
 pub mod Fits
+pub mod TextLaws
