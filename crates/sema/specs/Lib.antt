@@ -7,3 +7,10 @@ pub mod Operands
 pub mod Exprs
 pub mod Stmts
 pub mod Keys
+pub mod LawsLists
+pub mod LawsMarks
+pub mod LawsKeys
+pub mod KeyCount
+pub mod LawsOnly
+pub mod LawsCover
+pub mod LawsSymbols

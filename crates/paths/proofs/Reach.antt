@@ -1,0 +1,102 @@
+-- How a path reaches a statement through the parts that the path is made of. Assumes nothing.
+use mathlib.Core.Path.{_≡_, refl, sym, ap, subst}
+use mathlib.Core.List.{List, [], _∷_, _++_}
+use mathlib.Core.Logic.{_⊎_, inl, inr, _↔_}
+use Prim.Native.Nat.{ℕ}
+use Rattle.paths.specs.Steps.{Step, State, next, run, Reaches, Some, either}
+
+-- ── One list after the other ──
+
+pub run-append : (m : State) (xs ys : List Step) → run m (xs ++ ys) ≡ run (run m xs) ys
+run-append m [] ys = refl
+run-append m (x ∷ xs) ys = run-append (next m x) xs ys
+
+⊎-right : {A B C : Type 0} → (B → C) → A ⊎ B → A ⊎ C
+⊎-right f (inl a) = inl a
+⊎-right f (inr b) = inr (f b)
+
+⊎-assoc : {A B C : Type 0} → A ⊎ (B ⊎ C) → (A ⊎ B) ⊎ C
+⊎-assoc (inl a) = inl (inl a)
+⊎-assoc (inr (inl b)) = inl (inr b)
+⊎-assoc (inr (inr c)) = inr c
+
+drop-left : {A B : Type 0} → (A → ⊥) → A ⊎ B → B
+drop-left f (inl a) = absurd (f a)
+drop-left f (inr b) = b
+
+drop-right : {A B : Type 0} → (B → ⊥) → A ⊎ B → A
+drop-right f (inl a) = a
+drop-right f (inr b) = absurd (f b)
+
+module _ (P : State → Type 0) where
+  reaches-split : (m : State) (xs ys : List Step) (a : ℕ) → Reaches P m (xs ++ ys) a → Reaches P m xs a ⊎ Reaches P (run m xs) ys a
+  reaches-split m [] ys a h = inr h
+  reaches-split m (x ∷ xs) ys a h = ⊎-assoc (⊎-right (reaches-split (next m x) xs ys a) h)
+
+  reaches-left : (m : State) (xs ys : List Step) (a : ℕ) → Reaches P m xs a → Reaches P m (xs ++ ys) a
+  reaches-left m [] ys a h = absurd h
+  reaches-left m (x ∷ xs) ys a h = ⊎-right (reaches-left (next m x) xs ys a) h
+
+  reaches-right : (m : State) (xs ys : List Step) (a : ℕ) → Reaches P (run m xs) ys a → Reaches P m (xs ++ ys) a
+  reaches-right m [] ys a h = h
+  reaches-right m (x ∷ xs) ys a h = inr (reaches-right (next m x) xs ys a h)
+
+-- the paths of one list and then those of another
+module _ {I C D : Type 0} (st : I → State) (l : C → List Step) (r : D → List Step) (a : ℕ) (P : State → Type 0) where
+  pub seq-left : D → ((m : State) (d : D) → Reaches P m (r d) a → ⊥) → Some {J = I × C} (λ j. st (j .0)) (λ j. l (j .1)) a P
+      ↔ Some {J = I × (C × D)} (λ j. st (j .0)) (λ j. l (j .1 .0) ++ r (j .1 .1)) a P
+  seq-left d f = (
+    λ w. let c = w .path in record { path = (c .0, (c .1, d)); reaches = reaches-left P (st (c .0)) (l (c .1)) (r d) a (w .reaches) },
+    λ w. let c = w .path in
+        record { path = (c .0, c .1 .0); reaches = drop-right (f _ (c .1 .1)) (reaches-split P (st (c .0)) (l (c .1 .0)) (r (c .1 .1)) a (w .reaches)) },
+  )
+
+  pub seq-right : ((m : State) (c : C) → Reaches P m (l c) a → ⊥) → Some {J = (I × C) × D} (λ j. run (st (j .0 .0)) (l (j .0 .1))) (λ j. r (j .1)) a P
+      ↔ Some {J = I × (C × D)} (λ j. st (j .0)) (λ j. l (j .1 .0) ++ r (j .1 .1)) a P
+  seq-right f = (
+    λ w. let c = w .path in
+        record { path = (c .0 .0, (c .0 .1, c .1)); reaches = reaches-right P (st (c .0 .0)) (l (c .0 .1)) (r (c .1)) a (w .reaches) },
+    λ w. let c = w .path in
+        record { path = ((c .0, c .1 .0), c .1 .1); reaches = drop-left (f _ (c .1 .0)) (reaches-split P (st (c .0)) (l (c .1 .0)) (r (c .1 .1)) a (w .reaches)) },
+  )
+
+-- ── One of two ──
+
+module _ {I C D : Type 0} (st : I → State) (l : C → List Step) (r : D → List Step) (a : ℕ) (P : State → Type 0) where
+  only-left : ((m : State) (d : D) → Reaches P m (r d) a → ⊥) → (i : I) (c : C ⊎ D) → Reaches P (st i) (either l r c) a
+      → Some {J = I × C} (λ j. st (j .0)) (λ j. l (j .1)) a P
+  only-left f i (inl c) x = record { path = (i, c); reaches = x }
+  only-left f i (inr d) x = absurd (f (st i) d x)
+
+  only-right : ((m : State) (c : C) → Reaches P m (l c) a → ⊥) → (i : I) (c : C ⊎ D) → Reaches P (st i) (either l r c) a
+      → Some {J = I × D} (λ j. st (j .0)) (λ j. r (j .1)) a P
+  only-right f i (inl c) x = absurd (f (st i) c x)
+  only-right f i (inr d) x = record { path = (i, d); reaches = x }
+
+  pub fork-left : ((m : State) (d : D) → Reaches P m (r d) a → ⊥) → Some {J = I × C} (λ j. st (j .0)) (λ j. l (j .1)) a P
+      ↔ Some {J = I × (C ⊎ D)} (λ j. st (j .0)) (λ j. either l r (j .1)) a P
+  fork-left f = (
+    λ w. record { path = (w .path .0, inl (w .path .1)); reaches = w .reaches },
+    λ w. only-left f (w .path .0) (w .path .1) (w .reaches),
+  )
+
+  pub fork-right : ((m : State) (c : C) → Reaches P m (l c) a → ⊥) → Some {J = I × D} (λ j. st (j .0)) (λ j. r (j .1)) a P
+      ↔ Some {J = I × (C ⊎ D)} (λ j. st (j .0)) (λ j. either l r (j .1)) a P
+  fork-right f = (
+    λ w. record { path = (w .path .0, inr (w .path .1)); reaches = w .reaches },
+    λ w. only-right f (w .path .0) (w .path .1) (w .reaches),
+  )
+
+-- ── Behind a statement that leaves the marks as they are ──
+
+module _ {J : Type 0} (st : J → State) (h : Step) (silent : (m : State) → next m h ≡ m) (π : J → List Step) (a : ℕ) (apart : h .number ≡ a → ⊥)
+    (P : State → Type 0) where
+  past : (m : State) (ρ : List Step) → Reaches P m (h ∷ ρ) a → Reaches P m ρ a
+  past m ρ (inl x) = absurd (apart (x .0))
+  past m ρ (inr x) = subst (λ (q : State). Reaches P q ρ a) (silent m) x
+
+  pub behind : Some st π a P ↔ Some st (λ j. h ∷ π j) a P
+  behind = (
+    λ w. record { path = w .path; reaches = inr (subst (λ (q : State). Reaches P q (π (w .path)) a) (sym (silent (st (w .path)))) (w .reaches)) },
+    λ w. record { path = w .path; reaches = past (st (w .path)) (π (w .path)) (w .reaches) },
+  )

@@ -1,0 +1,4 @@
+pub mod Flow
+pub mod Steps
+pub mod Places
+pub mod Errors
