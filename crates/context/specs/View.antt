@@ -99,7 +99,7 @@ functionBy s at (suc flag) =
     some (record {
       params = map typeOf (take (getD s (at + 2) 0) (drop (at + 11) s));
       return-type = typeOf (getD s (at + 1) 0);
-      decl-span = spanAt s (at + 3)
+      decl-span = spanAt s (at + 3);
     })
 
 unfoldable pub functionsOf : List ℕ → Table FunctionSig

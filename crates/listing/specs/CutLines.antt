@@ -154,9 +154,10 @@ module _ (t : List Text) (clean : AllClean t) where
   clean-lines : (ds : List Diagnostic) → AllClean (diagnosticLines t ds)
   unfolding diagnosticLines diagnosticLine
   clean-lines [] = tt
-  clean-lines (d ∷ ds) =
-      (clean-span-line (letter (d .severity)) (d .span) _ (clean-letter (d .severity)) (clean-concat (messageParts t (d .message)) (clean-message (d .message))),
-      clean-all (noteLines t (d .secondary)) (diagnosticLines t ds) (clean-notes (d .secondary)) (clean-lines ds))
+  clean-lines (d ∷ ds) = (
+    clean-span-line (letter (d .severity)) (d .span) _ (clean-letter (d .severity)) (clean-concat (messageParts t (d .message)) (clean-message (d .message))),
+    clean-all (noteLines t (d .secondary)) (diagnosticLines t ds) (clean-notes (d .secondary)) (clean-lines ds),
+  )
 
   pub lines-of-listing : (ds : List Diagnostic) → linesOf (listingOf t ds) ≡ firstLine ds ∷ diagnosticLines t ds
   unfolding listingOf

@@ -10,3 +10,4 @@ pub mod Agrees
 pub mod SilentStmts
 pub mod Walk
 pub mod Demand3
+pub mod Bytes
