@@ -5,9 +5,8 @@ use Prim.Native.Nat.{ℕ, zero, suc}
 use mathlib.Core.Path.{_≡_, refl, sym, ap, _∙_, subst}
 use mathlib.Core.Bool.{Bool, true, false, cond}
 use mathlib.Core.Option.{Option, none, some}
-use mathlib.Core.List.{List, [], _∷_, _++_, List-discrete}
+use mathlib.Core.List.{List, [], _∷_, _++_}
 use native.Mathlib.Omega.{arith}
-use native.Mathlib.Decide.{ℕ-discrete}
 use lib.ListN.{getD}
 use lib.Dec.{eqb}
 use borrow.Author.Tests.{eqb-false}
@@ -27,18 +26,8 @@ use Rattle.listing.specs.CutLines.{lines-of-listing}
 use Rattle.listing.specs.Apart.{line-head, line-span, line-message}
 use Rattle.paths.specs.Places.{placesOf}
 use Rattle.paths.specs.Errors.{Line, line, isUse, useLines, ErrsOn, Number, tally, count, Prints, prints}
+use Rattle.paths.specs.Lines.{useText, useLine, isLine}
 use Rattle.paths.proofs.Demand3.{demand-3}
-
--- a message that begins so, and its line
-abbrev pub useText : List ℕ → List ℕ
-useText tail = text "use of qubit " ++ tail
-
-abbrev pub useLine : Span → List ℕ → List ℕ
-useLine sp tail = spanLine (text "E") sp (useText tail)
-
--- a line of bytes is this one
-abbrev pub isLine : (b l : List ℕ) → Dec (l ≡ b)
-isLine b l = List-discrete ℕ-discrete l b
 
 -- ── Texts without byte 10 ──
 

@@ -2,3 +2,4 @@ pub mod Flow
 pub mod Steps
 pub mod Places
 pub mod Errors
+pub mod Lines

@@ -1,0 +1,75 @@
+-- Demand 3 for every accepted call. Assumes nothing.
+use Prim.Native.Nat.{ℕ}
+use mathlib.Core.Path.{_≡_, refl, sym, ap, _∙_}
+use mathlib.Core.Bool.{Bool, true, false}
+use mathlib.Core.List.{List, _++_}
+use native.Mathlib.Omega.{arith}
+use lib.ListN.{length, take, drop}
+use lib.Seq.{take-at}
+use lib.Dec.{ltb}
+use Rattle.ast.specs.Tree.{Program}
+use Rattle.tree.specs.Ans.{Ans, ok, refused, given}
+use Rattle.tree.specs.Decode.{decode}
+use Rattle.sema.specs.Limits.{keyLimit, diagnosticLimit}
+use Rattle.sema.specs.Messages.{Diagnostic}
+use Rattle.sema.specs.Keys.{keys}
+use Rattle.sema.specs.Stmts.{analyze}
+use Rattle.listing.specs.Listing.{listing, listingOf}
+use Rattle.answer.specs.Answer.{Answer, accepted, refusal, scratchSize, unlessRefused, judgeListing, judgeDiagnostics, judgeProgram, judgeFile, answer, listingFile, listingAfter}
+use Rattle.paths.proofs.Bytes.{demand-3-bytes}
+use Rattle.claims.specs.Claim.{programOf, Claim}
+
+-- an accepted call has a program, and the answer's length is that of its listing
+record Read (tree : List ℕ) (n : ℕ) : Type 0 where
+  program : Program
+  next : ℕ
+  read : decode tree ≡ ok program next
+  size : n ≡ length (listing program)
+
+no : (number place e w n : ℕ) → refusal number place ≡ accepted e w n → ⊥
+no number place e w n h = let z : _≡_ {A = ℕ} 0 1 = cc in omega arith
+
+listed : (room : ℕ) (ds : List Diagnostic) (size e w n : ℕ) → judgeListing room ds size ≡ accepted e w n → n ≡ size
+unfolding judgeListing unlessRefused
+listed room ds size e w n h = go (ltb room size) _ _ h
+  where
+    go : (b : Bool) (x y : ℕ) → unlessRefused b 9 0 (accepted x y size) ≡ accepted e w n → n ≡ size
+    go true x y h = absurd (no 9 0 e w n h)
+    go false x y h = cc
+
+diagnosed : (room : ℕ) (p : Program) (ds : List Diagnostic) (e w n : ℕ) → judgeDiagnostics room p ds ≡ accepted e w n → n ≡ length (listingOf (p .texts) ds)
+unfolding judgeDiagnostics
+diagnosed room p ds e w n h = go (ltb diagnosticLimit (length ds)) h
+  where
+    go : (b : Bool) → elim b [ true ↦ refusal 8 0 | false ↦ judgeListing room ds (length (listingOf (p .texts) ds)) ] ≡ accepted e w n → n ≡ length (listingOf (p .texts) ds)
+    go true h = absurd (no 8 0 e w n h)
+    go false h = listed room ds _ e w n h
+
+judged : (room : ℕ) (p : Program) (e w n : ℕ) → judgeProgram room p ≡ accepted e w n → n ≡ length (listing p)
+unfolding judgeProgram listing
+judged room p e w n h = go (ltb keyLimit (length (keys p))) h
+  where
+    go : (b : Bool) → elim b [ true ↦ refusal 7 0 | false ↦ judgeDiagnostics room p (analyze p) ] ≡ accepted e w n → n ≡ length (listingOf (p .texts) (analyze p))
+    go true h = absurd (no 7 0 e w n h)
+    go false h = diagnosed room p (analyze p) e w n h
+
+accepted-read : (tree : List ℕ) (scratch room e w n : ℕ) → answer tree scratch room ≡ accepted e w n → Read tree n
+unfolding answer judgeFile
+accepted-read tree scratch room e w n h = go (ltb scratch scratchSize) h
+  where
+    file : (a : Ans Program) → decode tree ≡ a → judgeFile room a ≡ accepted e w n → Read tree n
+    file (ok p next) d h = record { program = p; next = next; read = d; size = judged room p e w n h }
+    file (refused k q) d h = absurd (no k q e w n h)
+
+    go : (b : Bool) → elim b [ true ↦ refusal 1 0 | false ↦ judgeFile room (decode tree) ] ≡ accepted e w n → Read tree n
+    go true h = absurd (no 1 0 e w n h)
+    go false h = file (decode tree) refl h
+
+-- For every call: if the definition of the answer accepts it, then what it leaves in the listing buffer meets the claim.
+pub demand-3 : (tree buffer : List ℕ) (scratch errors warnings size : ℕ) → answer tree scratch (length buffer) ≡ accepted errors warnings size
+    → Claim tree (listingAfter tree buffer (answer tree scratch (length buffer))) size
+unfolding programOf given listingAfter listingFile listing
+demand-3 tree buffer scratch errors warnings size h sp tail =
+    let r = accepted-read tree scratch (length buffer) errors warnings size h in
+    rw (h, r .read) (rw (take-at (listingOf (r .program .texts) (analyze (r .program))) (drop size buffer) size (sym (r .size)))
+    (demand-3-bytes tree (r .program) (r .next) (r .read) sp tail))

@@ -1,0 +1,1 @@
+// What is claimed of a call, as theorems: see specs/ and proofs/.
