@@ -1,8 +1,7 @@
 -- The analysis of a part of a tree agrees with the paths of that part: the laws for each form that a part has. Assumes nothing.
-use mathlib.Core.Path.{_≡_, refl, sym, ap, subst, subst₂}
+use mathlib.Core.Path.{_≡_, subst₂}
 use mathlib.Core.List.{List, [], _∷_, _++_, append-nil}
-use mathlib.Core.Logic.{_⊎_, _↔_}
-use Prim.Native.Nat.{ℕ, suc, _≤_, _<_}
+use Prim.Native.Nat.{ℕ, suc}
 use native.Mathlib.Omega.{arith}
 use Rattle.span.specs.declared.Span.{Span}
 use Rattle.ast.specs.Tree.{GateOperand, Stmt}
@@ -10,9 +9,9 @@ use Rattle.sema.specs.Messages.{Diagnostic}
 use Rattle.sema.specs.Symbols.{Symbols}
 use Rattle.sema.specs.Marks.{Marks, effect, apply, unite, afterLoop}
 use Rattle.sema.specs.Operands.{useOperands}
-use Rattle.paths.specs.Steps.{Step, step, State, next, run, either, turns, Turns}
+use Rattle.paths.specs.Steps.{Step, step, State, next, run, either, turns}
 use Rattle.paths.specs.Places.{Place, listed}
-use Rattle.paths.specs.Errors.{Line, useLines, Errs, Lists, empty}
+use Rattle.paths.specs.Errors.{useLines, Errs, Lists, done}
 use Rattle.paths.proofs.Ranges.{reaches-in}
 use Rattle.paths.proofs.Reach.{seq-left, seq-right, fork-left, fork-right, behind}
 use Rattle.paths.proofs.Standing.{Sound, sound-nil, sound-alone, sound-head, sound-seq, United, united-turned, sound-fork}
@@ -30,15 +29,15 @@ pub record Agrees {C : Type 0} (π : C → List Step) (qs : List Place) (M M′ 
 -- ── No statement, one statement ──
 
 pub agrees-nil : {M : Marks} → Agrees {C = Unit {0}} (λ c. []) [] M M []
-agrees-nil {M} = record { exit = λ st i S. sound-nil M st S; errors = λ st i S. empty }
+agrees-nil {M} = record { exit = λ st i S. sound-nil M st S; errors = λ st i S. done }
 
 module _ (s : Stmt) (ss : Symbols) (n : ℕ) (sp : Span) (M : Marks) where
   -- one that uses no operand
   pub agrees-alone : {ds : List Diagnostic} → Silent ds → Agrees {C = Unit {0}} (λ c. step ss n s ∷ []) [] M (apply (effect ss s) sp M) ds
-  agrees-alone p = record { exit = λ st i S. sound-alone s ss n sp M st i S; errors = λ st i S. rw (p .none-counted) empty }
+  agrees-alone p = record { exit = λ st i S. sound-alone s ss n sp M st i S; errors = λ st i S. rw (p .none-counted) done }
 
   pub agrees-uses : (ops : List GateOperand)
-      → Agrees {C = Unit {0}} (λ c. step ss n s ∷ []) (listed n sp 0 ops) M (apply (effect ss s) sp M) (useOperands ss M sp ops)
+      → Agrees {C = Unit {0}} (λ c. step ss n s ∷ []) (listed n ss sp 0 ops) M (apply (effect ss s) sp M) (useOperands ss M sp ops)
   agrees-uses ops = record { exit = λ st i S. sound-alone s ss n sp M st i S; errors = λ st i S. uses-ok M st S (step ss n s) ss sp 0 ops }
 
 -- what else is said, before and after

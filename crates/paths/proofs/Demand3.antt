@@ -10,18 +10,17 @@ use native.Mathlib.Decide.{decLt}
 use Rattle.span.specs.declared.Span.{Span}
 use Rattle.ast.specs.Tree.{GateOperand, Program}
 use Rattle.sema.specs.Messages
-use Rattle.sema.specs.Messages.{Message}
+use Rattle.sema.specs.Symbols.{empty as noSymbols}
 use Rattle.sema.specs.Marks.{noMarks}
 use Rattle.sema.specs.Stmts.{new, analyze}
 use Rattle.paths.specs.Flow.{flows}
 use Rattle.paths.specs.Steps.{sizes, noMark, Step, PathOf, pathSteps}
 use Rattle.paths.specs.Places.{Place, placesOf, Ordered, Fits}
-use Rattle.paths.specs.Errors.{Line, line, useLines, Named, ErrsOn, Lists, empty, has, skip, Number, nil, one, not, tally, count, Prints, prints}
+use Rattle.paths.specs.Errors.{Line, line, useLines, Named, ErrsOn, Lists, done, has, skip, Number, nil, one, not, tally, count, Prints, prints}
 use Rattle.paths.proofs.Standing.{Sound}
 use Rattle.paths.proofs.Part.{Part, part}
 use Rattle.paths.proofs.Lists.{move}
 use Rattle.paths.proofs.Walk.{walk}
-use Rattle.sema.specs.Symbols.{empty as noSymbols}
 
 -- ── In order ──
 
@@ -61,46 +60,38 @@ errs-one p q k l v w = named-one _ (q .op) (q .span) (q .op .slice) k l v w
 
 -- ── How many ──
 
-module _ {R : Place → Line → Type 0} (u : (q : Place) (k l : Line) → R q k → R q l → k ≡ l) where
-  counted : {P : Line → Type 0} (d : (l : Line) → Dec (P l)) {qs : List Place} {ls : List Line} → Lists R qs ls
-      → Number (λ q. (l : Line) × R q l × P l) qs (count d ls)
-  counted d empty = nil
-  counted {P} d (has {q = q} {l = k} {qs = qs₁} {ls = ls₁} h v) = go (d k) (counted d v)
-    where
-      go : (e : Dec (P k)) → Number (λ q. (l : Line) × R q l × P l) qs₁ (count d ls₁)
-          → Number (λ q. (l : Line) × R q l × P l) (q ∷ qs₁) (tally e (count d ls₁))
-      go (yes e) w = one (k, h, e) w
-      go (no e) w = not (λ x. e (subst P (u q (x .0) k (x .1) h) (x .2))) w
-  counted d (skip h v) = not (λ x. h (x .0) (x .1)) (counted d v)
+count-number : {A : Type 0} {P : A → Type 0} (d : (a : A) → Dec (P a)) (l : List A) → Number P l (count d l)
+count-number d [] = nil
+count-number {A} {P} d (a ∷ l) = go (d a) (count-number d l)
+  where
+    go : (e : Dec (P a)) → Number P l (count d l) → Number P (a ∷ l) (tally e (count d l))
+    go (yes e) w = one e w
+    go (no e) w = not e w
 
-  as-many : (l : Line) {qs : List Place} {ls : List Line} → Lists R qs ls → {n : ℕ} → Number (λ k. k ≡ l) ls n → Number (λ q. R q l) qs n
-  as-many l empty nil = nil
-  as-many l (has {q = q} h v) (one e w) = one (subst (λ (k : Line). R q k) e h) (as-many l v w)
-  as-many l (has {q = q} {l = k} h v) (not e w) = not (λ x. e (u q k l h x)) (as-many l v w)
-  as-many l (skip h v) w = not (h l) (as-many l v w)
+-- as many lines that have P as places with such a line
+module _ {R : Place → Line → Type 0} (u : (q : Place) (k l : Line) → R q k → R q l → k ≡ l) (P : Line → Type 0) where
+  to-places : {qs : List Place} {ls : List Line} → Lists R qs ls → {n : ℕ} → Number P ls n → Number (λ q. (l : Line) × R q l × P l) qs n
+  to-places done nil = nil
+  to-places (has {l = k} h v) (one e w) = one (k, h, e) (to-places v w)
+  to-places (has {q = q} {l = k} h v) (not e w) = not (λ x. e (subst P (u q (x .0) k (x .1) h) (x .2))) (to-places v w)
+  to-places (skip h v) w = not (λ x. h (x .0) (x .1)) (to-places v w)
 
-  as-many-back : (l : Line) {qs : List Place} {ls : List Line} → Lists R qs ls → {n : ℕ} → Number (λ q. R q l) qs n → Number (λ k. k ≡ l) ls n
-  as-many-back l empty nil = nil
-  as-many-back l (has {q = q} {l = k} h v) (one r w) = one (u q k l h r) (as-many-back l v w)
-  as-many-back l (has {q = q} h v) (not r w) = not (λ e. r (subst (λ (k : Line). R q k) e h)) (as-many-back l v w)
-  as-many-back l (skip h v) (one r w) = absurd (h l r)
-  as-many-back l (skip h v) (not r w) = as-many-back l v w
+  to-lines : {qs : List Place} {ls : List Line} → Lists R qs ls → {n : ℕ} → Number (λ q. (l : Line) × R q l × P l) qs n → Number P ls n
+  to-lines done nil = nil
+  to-lines (has {q = q} {l = k} h v) (one x w) = one (subst P (u q (x .0) k (x .1) h) (x .2)) (to-lines v w)
+  to-lines (has {l = k} h v) (not x w) = not (λ e. x (k, h, e)) (to-lines v w)
+  to-lines (skip h v) (one x w) = absurd (h (x .0) (x .1))
+  to-lines (skip h v) (not x w) = to-lines v w
 
--- of the errors that pass a test of span and message, as many as there are places whose error passes it
-pub demand-3-by : (p : Program) {P : Line → Type 0} (d : (l : Line) → Dec (P l))
-    → Number (λ q. (l : Line) × ErrsOn p q l × P l) (placesOf p) (count d (useLines (analyze p)))
-demand-3-by p d = counted (errs-one p) d (in-order p)
+-- whatever is asked of span and message: exactly n of the errors counted have it where exactly n places have an error that has it
+pub demand-3-for : (p : Program) (P : Line → Type 0) (n : ℕ) → Number (λ q. (l : Line) × ErrsOn p q l × P l) (placesOf p) n ↔ Number P (useLines (analyze p)) n
+demand-3-for p P n = (λ w. to-lines (errs-one p) P (in-order p) w, λ w. to-places (errs-one p) P (in-order p) w)
 
 -- "for every span and message, the listing has exactly as many of these lines as there are places whose error has both and that some path
 -- reaches with a covering mark standing": the message as it is printed
 pub demand-3 : (p : Program) (sp : Span) (bytes : List ℕ)
     → Number (λ q. (l : Line) × ErrsOn p q l × Prints (p .texts) sp bytes l) (placesOf p) (count (prints (p .texts) sp bytes) (useLines (analyze p)))
-demand-3 p sp bytes = demand-3-by p (prints (p .texts) sp bytes)
-
--- and the message as a value
-pub demand-3-value : (p : Program) (sp : Span) (m : Message) (n : ℕ) → Number (λ q. ErrsOn p q (line sp m)) (placesOf p) n
-    ↔ Number (λ l. l ≡ line sp m) (useLines (analyze p)) n
-demand-3-value p sp m n = (λ w. as-many-back (errs-one p) (line sp m) (in-order p) w, λ w. as-many (errs-one p) (line sp m) (in-order p) w)
+demand-3 p sp bytes = demand-3-for p (Prints (p .texts) sp bytes) _ .1 (count-number (prints (p .texts) sp bytes) (useLines (analyze p)))
 
 -- ── That the claim says what it seems to ──
 

@@ -10,4 +10,5 @@ pub mod Agrees
 pub mod SilentStmts
 pub mod Walk
 pub mod Demand3
+pub mod Examples
 pub mod Bytes

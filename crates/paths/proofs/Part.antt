@@ -1,18 +1,18 @@
 -- What holds of every part of a tree, its paths and its places: each statement has a number of its own, and each place is what it
 -- seems. Assumes nothing.
 use mathlib.Core.Path.{_≡_, refl, sym, ap, subst, _∙_}
-use mathlib.Core.Option.{Option, none, some}
+use mathlib.Core.Option.{some}
 use mathlib.Core.List.{List, [], _∷_, _++_, List·Memᴰ, List·Memᴰ·not-nil, List·Memᴰ·cases-cons, List·Memᴰ·append-cases, append-nil}
 use mathlib.Core.Logic.{_⊎_, inl, inr, ⊎-elim}
-use Prim.Native.Nat.{ℕ, zero, suc, _+_, _≤_, _<_}
+use Prim.Native.Nat.{ℕ, suc, _+_, _≤_, _<_}
 use native.Mathlib.Omega.{arith}
 use Rattle.span.specs.declared.Span.{Span}
 use Rattle.ast.specs.Tree.{GateOperand, Stmt}
-use Rattle.sema.specs.Symbols.{empty as noSymbols, Symbols, after}
+use Rattle.sema.specs.Symbols.{Symbols, empty as noSymbols, after}
 use Rattle.paths.specs.Flow.{Flow, Flows, alone, once, arms, loop, noFlow, moreFlow, head}
-use Rattle.paths.specs.Steps.{Step, step, size, sizes, either, turns, Turns, Choice, Choices, steps₁, steps}
-use Rattle.paths.specs.Places.{uses, Place, listed, places₁, places, AllAfter, Ordered, nthOf, Fits}
-use Rattle.paths.proofs.Ranges.{Within, bare, more, PlacesIn, StepsIn, widen, within-append, within-at}
+use Rattle.paths.specs.Steps.{Step, step, size, sizes, either, turns, steps₁, steps}
+use Rattle.paths.specs.Places.{uses, Place, place, listed, places₁, places, AllAfter, Ordered, nthOf, Fits}
+use Rattle.paths.proofs.Ranges.{bare, more, PlacesIn, StepsIn, widen, within-append, within-at}
 
 -- a part of a tree: it has a path; its statements and places are numbered from lo to hi; the statement that has the number of a place is
 -- that place's
@@ -40,48 +40,49 @@ ordered-append {qs} (more {a = p} {l = ps} u v r) w x y = (after-append p ps qs 
 
 -- ── One statement ──
 
-module _ (n : ℕ) (sp : Span) where
-  listed-in : (i : ℕ) (ops : List GateOperand) → PlacesIn n (n + 1) (listed n sp i ops)
+module _ (n : ℕ) (ss : Symbols) (sp : Span) where
+  listed-in : (i : ℕ) (ops : List GateOperand) → PlacesIn n (n + 1) (listed n ss sp i ops)
   listed-in i [] = bare
-  listed-in i (op ∷ ops) = more {a = record { number = n; nth = i; op = op; span = sp }} (omega arith) (omega arith) (listed-in (suc i) ops)
+  listed-in i (op ∷ ops) = more {a = place n ss sp i op} (omega arith) (omega arith) (listed-in (suc i) ops)
 
-  listed-after : (i j : ℕ) (op : GateOperand) → i < j → (ops : List GateOperand) → AllAfter (record { number = n; nth = i; op = op; span = sp }) (listed n sp j ops)
+  listed-after : (i j : ℕ) (op : GateOperand) → i < j → (ops : List GateOperand) → AllAfter (place n ss sp i op) (listed n ss sp j ops)
   listed-after i j op h [] = tt
   listed-after i j op h (o ∷ ops) = (inr (refl, h), listed-after i (suc j) op (omega arith) ops)
 
-  listed-ordered : (i : ℕ) (ops : List GateOperand) → Ordered (listed n sp i ops)
+  listed-ordered : (i : ℕ) (ops : List GateOperand) → Ordered (listed n ss sp i ops)
   listed-ordered i [] = tt
   listed-ordered i (op ∷ ops) = (listed-after i (suc i) op (omega arith) ops, listed-ordered (suc i) ops)
 
-  listed-at : (i : ℕ) (ops : List GateOperand) (q : Place) → List·Memᴰ q (listed n sp i ops)
-      → (j : ℕ) × (q .nth ≡ i + j) × (q .span ≡ sp) × (nthOf ops j ≡ some (q .op))
+  listed-at : (i : ℕ) (ops : List GateOperand) (q : Place) → List·Memᴰ q (listed n ss sp i ops)
+      → (j : ℕ) × (q .nth ≡ i + j) × (q .span ≡ sp) × (q .symbols ≡ ss) × (nthOf ops j ≡ some (q .op))
   listed-at i [] q m = absurd (List·Memᴰ·not-nil m)
   listed-at i (op ∷ ops) q m =
       ⊎-elim
       (λ e. let d = ap (λ (r : Place). r .nth) e in
-      (0, omega arith, ap (λ (r : Place). r .span) e, ap (λ (r : Place). some (r .op)) (sym e)))
-      (λ t. let w = listed-at (suc i) ops q t in let d = w .1 in (suc (w .0), omega arith, w .2, w .3))
+      (0, omega arith, ap (λ (r : Place). r .span) e, ap (λ (r : Place). r .symbols) e, ap (λ (r : Place). some (r .op)) (sym e)))
+      (λ t. let w = listed-at (suc i) ops q t in let d = w .1 in (suc (w .0), omega arith, w .2, w .3, w .4))
       (List·Memᴰ·cases-cons m)
 
-pub part-alone : (s : Stmt) (ss : Symbols) (n : ℕ) → Part {C = Unit {0}} (λ c. step ss n s ∷ []) (listed n (uses s .1) 0 (uses s .0)) n (n + 1)
+pub part-alone : (s : Stmt) (ss : Symbols) (n : ℕ) → Part {C = Unit {0}} (λ c. step ss n s ∷ []) (listed n ss (uses s .1) 0 (uses s .0)) n (n + 1)
 part-alone s ss n =
     record {
       any = tt;
       order = omega arith;
       numbers = λ c. more {a = step ss n s} (omega arith) (omega arith) bare;
-      within = listed-in n (uses s .1) 0 (uses s .0);
-      ordered = listed-ordered n (uses s .1) 0 (uses s .0);
-      fits = λ c q x m k e. go q x (listed-at n (uses s .1) 0 (uses s .0) q m) (List·Memᴰ·cases-cons k);
+      within = listed-in n ss (uses s .1) 0 (uses s .0);
+      ordered = listed-ordered n ss (uses s .1) 0 (uses s .0);
+      fits = λ c q x m k e. go q x (listed-at n ss (uses s .1) 0 (uses s .0) q m) (List·Memᴰ·cases-cons k);
     }
   where
-    go : (q : Place) (x : Step) → (j : ℕ) × (q .nth ≡ 0 + j) × (q .span ≡ uses s .1) × (nthOf (uses s .0) j ≡ some (q .op))
+    go : (q : Place) (x : Step) → (j : ℕ) × (q .nth ≡ 0 + j) × (q .span ≡ uses s .1) × (q .symbols ≡ ss) × (nthOf (uses s .0) j ≡ some (q .op))
         → (x ≡ step ss n s) ⊎ List·Memᴰ x [] → Fits q x
     go q x w (inl p) =
         let d = w .1 in
         let eq : q .nth ≡ w .0 = omega arith in
         record {
-          operand = ap (λ (y : Step). nthOf (uses (y .stmt) .0) (q .nth)) p ∙ ap (λ (j : ℕ). nthOf (uses s .0) j) eq ∙ w .3;
+          operand = ap (λ (y : Step). nthOf (uses (y .stmt) .0) (q .nth)) p ∙ ap (λ (j : ℕ). nthOf (uses s .0) j) eq ∙ w .4;
           span = ap (λ (y : Step). uses (y .stmt) .1) p ∙ sym (w .2);
+          symbols = ap (λ (y : Step). y .symbols) p ∙ sym (w .3);
         }
     go q x w (inr t) = absurd (List·Memᴰ·not-nil t)
 
@@ -169,7 +170,7 @@ up-to : {C : Type 0} {π : C → List Step} {qs : List Place} {lo hi : ℕ} (hi�
 up-to {π} {qs} {lo} hi′ e p = subst (λ (z : ℕ). Part π qs lo z) e p
 
 mutual
-  pub part₁ : (f : Flow) (ss : Symbols) (n : ℕ) → Part (λ c. steps₁ f ss n c) (places₁ f n) n (n + size f)
+  pub part₁ : (f : Flow) (ss : Symbols) (n : ℕ) → Part (λ c. steps₁ f ss n c) (places₁ f ss n) n (n + size f)
   part₁ (alone s) ss n = part-alone s ss n
   part₁ (once s sc b) ss n = up-to (n + suc (sizes b)) (omega arith) (part-head (step ss n s) (part b (sc ∷ ss) (suc n)))
   part₁ (arms s a b) ss n =
@@ -177,6 +178,6 @@ mutual
       (part-head (step ss n s) (part-fork (part a (noSymbols ∷ ss) (suc n)) (part b (noSymbols ∷ ss) (suc n + sizes a))))
   part₁ (loop s sc b) ss n = up-to (n + suc (sizes b)) (omega arith) (part-head (step ss n s) (part-turns (part b (sc ∷ ss) (suc n))))
 
-  pub part : (b : Flows) (ss : Symbols) (n : ℕ) → Part (λ c. steps b ss n c) (places b n) n (n + sizes b)
+  pub part : (b : Flows) (ss : Symbols) (n : ℕ) → Part (λ c. steps b ss n c) (places b ss n) n (n + sizes b)
   part noFlow ss n = up-to (n + 0) (omega arith) (part-nil n)
   part (moreFlow f r) ss n = up-to (n + (size f + sizes r)) (omega arith) (part-seq (part₁ f ss n) (part r (after ss (head f)) (n + size f)))

@@ -1,8 +1,8 @@
 -- The numbers of the statements in a list of steps, or of places, lie in a range. Assumes nothing.
-use mathlib.Core.Path.{_≡_, ap}
+use mathlib.Core.Path.{ap}
 use mathlib.Core.List.{List, [], _∷_, _++_, List·Memᴰ, List·Memᴰ·not-nil, List·Memᴰ·cases-cons}
-use mathlib.Core.Logic.{_⊎_, inl, inr, ⊎-elim}
-use Prim.Native.Nat.{ℕ, suc, _≤_, _<_}
+use mathlib.Core.Logic.{inl, inr, ⊎-elim}
+use Prim.Native.Nat.{ℕ, _≤_, _<_}
 use native.Mathlib.Omega.{arith}
 use Rattle.paths.specs.Steps.{Step, State, next, Reaches}
 use Rattle.paths.specs.Places.{Place}

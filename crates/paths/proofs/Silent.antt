@@ -2,7 +2,7 @@
 -- Assumes nothing.
 use Prim.Native.Nat.{ℕ, suc}
 use mathlib.Core.Path.{_≡_, refl, ap, _∙_}
-use mathlib.Core.Bool.{Bool, true, false, cond, _&&_, _||_, not}
+use mathlib.Core.Bool.{Bool, true, false, cond, _&&_, _||_}
 use mathlib.Core.Option.{Option, none, some}
 use mathlib.Core.List.{List, [], _∷_, _++_}
 use lib.ListN.{length}
@@ -12,7 +12,7 @@ use Rattle.ast.specs.Tree.{TextNumber, Expr, Exprs, noExpr, moreExpr, GateOpera
 use Rattle.ast.specs.declared.ClassicalType.{ClassicalType}
 use Rattle.types.specs.Types.{numberOf, assignableTo, numeric}
 use Rattle.sema.specs.Messages
-use Rattle.sema.specs.Messages.{SymbolKind, Qubit, Bit, Classical, Const, GateParam, GateQubit, Expected, Diagnostic, error, errorWithNote}
+use Rattle.sema.specs.Messages.{SymbolKind, Qubit, Bit, Classical, Const, GateParam, GateQubit, Expected, Diagnostic, error}
 use Rattle.sema.specs.Symbols.{Symbols, Symbol, FunctionSig, Table, get}
 use Rattle.int128.specs.Whole.{positive}
 use Rattle.sema.specs.Constants.{evalConstInt}

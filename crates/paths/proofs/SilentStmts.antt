@@ -1,11 +1,10 @@
 -- What is said of a statement besides the uses of its operands is none of the errors counted. Assumes nothing.
-use Prim.Native.Nat.{ℕ, suc, _+_}
-use mathlib.Core.Path.{_≡_, refl}
-use mathlib.Core.Bool.{Bool, true, false, _&&_, _||_, not}
+use Prim.Native.Nat.{ℕ, _+_}
+use mathlib.Core.Path.{refl}
+use mathlib.Core.Bool.{_&&_, _||_, not}
 use mathlib.Core.Option.{Option, none, some}
-use mathlib.Core.List.{List, [], _∷_, _++_}
+use mathlib.Core.List.{List, [], _∷_, map}
 use lib.ListN.{length, getD}
-use mathlib.Core.List.{map}
 use lib.Dec.{eqb}
 use Rattle.span.specs.declared.Span.{Span}
 use Rattle.ast.specs.Tree.{Text, TextNumber, Expr, Exprs, noExpr, moreExpr, GateOperand, GateModifier, ForRange}
@@ -16,7 +15,7 @@ use Rattle.types.specs.Types.{numberOf, assignableTo, numeric}
 use Rattle.gates.specs.Gates.{lower, signatureOf}
 use Rattle.gates.specs.declared.Signature.{Signature}
 use Rattle.sema.specs.Messages
-use Rattle.sema.specs.Messages.{SymbolKind, Qubit, Bit, Classical, Const, GateParam, GateQubit, aQubit, aBit, Diagnostic}
+use Rattle.sema.specs.Messages.{SymbolKind, Qubit, Bit, Classical, Const, GateParam, GateQubit, aQubit, aBit}
 use Rattle.sema.specs.Symbols.{Symbols, FunctionSig, Table, get, getCurrent, declareSays, functionScope}
 use Rattle.sema.specs.Marks.{lookupMeasured}
 use Rattle.sema.specs.Constants.{controls}

@@ -2,7 +2,7 @@
 use mathlib.Core.Path.{_≡_, refl, sym, ap, subst}
 use mathlib.Core.Bool.{Bool, true, false, _||_}
 use mathlib.Core.Option.{Option, none, some}
-use mathlib.Core.List.{List, [], _∷_, _++_}
+use mathlib.Core.List.{List, _∷_, _++_}
 use mathlib.Core.Logic.{_⊎_, inl, inr, _↔_}
 use lib.Dec.{T}
 use Prim.Native.Nat.{ℕ}
@@ -101,8 +101,8 @@ T-or true b = (λ h. inl tt, λ w. tt)
 T-or false b = (λ h. inr h, λ w. let go : (⊥ ⊎ T b) → T b = elim [ inl x ↦ absurd x | inr y ↦ y ] in go w)
 
 -- the analysis finds a covering mark where one stands on some path
-module _ {I : Type 0} (M : Marks) (st : I → State) (S : Sound M st) (x : TextNumber) where
-  cover-into : (i : ℕ) → T (isSome (M (key x (some i)))) ⊎ T (isSome (M (key x none))) → (j : I) × T (covers (st j) x (some i))
+module _ {I : Type 0} (M : Marks) (st : I → State) (S : Sound M st) (ss : Symbols) (x : TextNumber) where
+  cover-into : (i : ℕ) → T (isSome (M (key x (some i)))) ⊎ T (isSome (M (key x none))) → (j : I) × T (covers ss (st j) x (some i))
   cover-into i (inl h) = let w = S (key x (some i)) .0 h in (w .0, T-or (st (w .0) (key x (some i))) (st (w .0) (key x none)) .1 (inl (w .1)))
   cover-into i (inr h) = let w = S (key x none) .0 h in (w .0, T-or (st (w .0) (key x (some i))) (st (w .0) (key x none)) .1 (inr (w .1)))
 
@@ -110,7 +110,7 @@ module _ {I : Type 0} (M : Marks) (st : I → State) (S : Sound M st) (x : TextN
   cover-out i j (inl h) = inl (S (key x (some i)) .1 (j, h))
   cover-out i j (inr h) = inr (S (key x none) .1 (j, h))
 
-  pub cover : (i : Option ℕ) → T (isSome (lookupMeasured M x i)) ↔ ((j : I) × T (covers (st j) x i))
+  pub cover : (i : Option ℕ) → T (isSome (lookupMeasured M x i)) ↔ ((j : I) × T (covers ss (st j) x i))
   unfolding lookupMeasured
   cover none = S (key x none)
   cover (some i) = (

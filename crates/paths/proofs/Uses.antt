@@ -1,5 +1,5 @@
 -- The check of uses gives each operand of a list its error, if one of the marks covers it. Assumes nothing.
-use mathlib.Core.Path.{_≡_, refl, ap, _∙_, subst}
+use mathlib.Core.Path.{_≡_, refl, subst}
 use mathlib.Core.Option.{Option, none, some}
 use mathlib.Core.List.{List, [], _∷_, _++_}
 use mathlib.Core.Logic.{_⊎_, inl, inr, _↔_}
@@ -15,7 +15,7 @@ use Rattle.sema.specs.Marks.{Marks, lookupMeasured, firstCovered, smallestCover
 use Rattle.sema.specs.Operands.{isSome, checkOperand, usedSays, usedIndexSays, useBy, useOperands}
 use Rattle.paths.specs.Steps.{Step, State, Some, covers}
 use Rattle.paths.specs.Places.{Place, listed}
-use Rattle.paths.specs.Errors.{Line, useLines, Named, Errs, Lists, empty, has, skip}
+use Rattle.paths.specs.Errors.{Line, useLines, Named, Errs, Lists, done, has, skip}
 use Rattle.paths.proofs.Standing.{Sound, cover}
 use Rattle.paths.proofs.Silent.{useLines-append, silent-operand}
 
@@ -82,10 +82,10 @@ module _ {I : Type 0} (M : Marks) (st : I → State) (S : Sound M st) (x : Step)
   )
 
   pub uses-ok : (ss : Symbols) (sp : Span) (i : ℕ) (ops : List GateOperand)
-      → Lists (Errs {J = I × Unit {0}} (λ j. st (j .0)) (λ j. x ∷ [])) (listed (x .number) sp i ops) (useLines (useOperands ss M sp ops))
+      → Lists (Errs {J = I × Unit {0}} (λ j. st (j .0)) (λ j. x ∷ [])) (listed (x .number) ss sp i ops) (useLines (useOperands ss M sp ops))
   unfolding useOperands
-  uses-ok ss sp i [] = empty
+  uses-ok ss sp i [] = done
   uses-ok ss sp i (op ∷ ops) =
       rw (useLines-append, useLines-append (checkOperand ss op Messages.aQubit), silent-operand ss op Messages.aQubit .none-counted)
-      (outcome-lists (use-ok M op sp _ (λ k. both-iff (cover M st S (op .name) k) (here (λ m. T (covers m (op .name) k)))) (op .slice))
+      (outcome-lists (use-ok M op sp _ (λ k. both-iff (cover M st S ss (op .name) k) (here (λ m. T (covers ss m (op .name) k)))) (op .slice))
       (uses-ok ss sp (suc i) ops))

@@ -1,20 +1,19 @@
 -- The analysis of every tree agrees with the paths of the tree: one induction over statements. Assumes nothing.
 use Prim.Native.Nat.{ℕ, suc, _+_}
 use mathlib.Core.Path.{_≡_, refl, subst}
-use mathlib.Core.List.{List, [], _∷_, _++_}
+use mathlib.Core.List.{List, _∷_, _++_}
 use Rattle.ast.specs.Tree.{Text, Stmt, Stmts, noStmt, moreStmt, Else, noElse, someElse}
 use Rattle.ast.specs.declared.ClassicalType.{ClassicalType}
 use Rattle.sema.specs.Messages
 use Rattle.sema.specs.Messages.{aQubit, Diagnostic}
-use Rattle.sema.specs.Symbols.{empty as noSymbols, Symbols, after, gateScope, loopScope}
+use Rattle.sema.specs.Symbols.{Symbols, empty as noSymbols, after, gateScope, loopScope}
 use Rattle.sema.specs.Marks.{effect, mark, apply}
 use Rattle.sema.specs.Stmts.{SemaContext, enter, leave, defineGate, registerWidths, gateCallSays, analyzeStmt, analyzeStmts, analyzeElse}
-use Rattle.paths.specs.Flow.{Flow, Flows, noFlow, head, flow, flows, flowElse}
-use Rattle.paths.specs.Steps.{Step, step, size, sizes, State, next, steps₁, steps}
+use Rattle.paths.specs.Flow.{Flows, noFlow, head, flow, flows, flowElse}
+use Rattle.paths.specs.Steps.{step, size, sizes, State, next, steps₁, steps}
 use Rattle.paths.specs.Places.{places₁, places}
 use Rattle.paths.proofs.Standing.{united, united-turned}
-use Rattle.paths.proofs.Part.{part, part-fork, part-turns}
-use Rattle.paths.proofs.Part.{part₁}
+use Rattle.paths.proofs.Part.{part, part-fork, part-turns, part₁}
 use Rattle.paths.proofs.Silent.{silent, silent-operand, silent-require, silent-require-numeric, silent-modifiers}
 use Rattle.paths.proofs.SilentStmts.{silent-declare, silent-classical, silent-assignment, silent-params, silent-widths, silent-signature, silent-gate, silent-function, silent-measure, silent-range}
 use Rattle.paths.proofs.Agrees.{Agrees, agrees-nil, agrees-alone, agrees-uses, agrees-said, agrees-then, agrees-head, agrees-fork, agrees-seq, agrees-turns}
@@ -49,7 +48,7 @@ module _ (t : List Text) where
     unfolding analyzeStmt effect mark apply gateCallSays
 
     walk₁ : (s : Stmt) (c : SemaContext) (n : ℕ)
-        → Agrees (λ d. steps₁ (flow s) (c .symbols) n d) (places₁ (flow s) n) (c .measured) (analyzeStmt t s c .0 .measured) (analyzeStmt t s c .1)
+        → Agrees (λ d. steps₁ (flow s) (c .symbols) n d) (places₁ (flow s) (c .symbols) n) (c .measured) (analyzeStmt t s c .0 .measured) (analyzeStmt t s c .1)
     walk₁ (Stmt.Include at path sp) c n = agrees-alone (Stmt.Include at path sp) (c .symbols) n sp (c .measured) (silent refl)
     walk₁ (Stmt.QubitDecl at x z sp) c n = agrees-alone (Stmt.QubitDecl at x z sp) (c .symbols) n sp (c .measured) (silent-declare (c .symbols) x sp)
     walk₁ (Stmt.BitDecl at x z sp) c n = agrees-alone (Stmt.BitDecl at x z sp) (c .symbols) n sp (c .measured) (silent-declare (c .symbols) x sp)
@@ -91,19 +90,19 @@ module _ (t : List Text) where
         (agrees-head (step (c .symbols) n (Stmt.While at e body sp)) (λ m. refl) (part-turns p) (agrees-turns p (walk body (enter noSymbols c) (suc n))))
 
     pub walk : (b : Stmts) (c : SemaContext) (n : ℕ)
-        → Agrees (λ d. steps (flows b) (c .symbols) n d) (places (flows b) n) (c .measured) (analyzeStmts t b c .0 .measured) (analyzeStmts t b c .1)
+        → Agrees (λ d. steps (flows b) (c .symbols) n d) (places (flows b) (c .symbols) n) (c .measured) (analyzeStmts t b c .0 .measured) (analyzeStmts t b c .1)
     walk noStmt c n = agrees-nil
     walk (moreStmt s r) c n =
         let k = n + size (flow s) in
         let w = analyzeStmt t s c .0 in
         agrees-seq (part₁ (flow s) (c .symbols) n) (part (flows r) (after (c .symbols) (head (flow s))) k) (walk₁ s c n)
-        (subst (λ (ss : Symbols). Agrees (λ d. steps (flows r) ss k d) (places (flows r) k) (w .measured) (analyzeStmts t r w .0 .measured) (analyzeStmts t r w .1))
+        (subst (λ (ss : Symbols). Agrees (λ d. steps (flows r) ss k d) (places (flows r) ss k) (w .measured) (analyzeStmts t r w .0 .measured) (analyzeStmts t r w .1))
         (symbols-after s c) (walk r w k))
 
     -- an `if` whose first arm is a, which the context i ended in
     walkElse : (e : Else) (s : Stmt) (a : Flows) (c i : SemaContext) (n : ℕ) → ((m : State) → next m (step (c .symbols) n s) ≡ m) → {ds : List Diagnostic}
-        → Agrees (λ d. steps a (noSymbols ∷ c .symbols) (suc n) d) (places a (suc n)) (c .measured) (i .measured) ds
-        → Agrees (λ d. steps₁ (flowElse e s a) (c .symbols) n d) (places₁ (flowElse e s a) n) (c .measured) (analyzeElse t e c i .0 .measured) (ds ++ analyzeElse t e c i .1)
+        → Agrees (λ d. steps a (noSymbols ∷ c .symbols) (suc n) d) (places a (noSymbols ∷ c .symbols) (suc n)) (c .measured) (i .measured) ds
+        → Agrees (λ d. steps₁ (flowElse e s a) (c .symbols) n d) (places₁ (flowElse e s a) (c .symbols) n) (c .measured) (analyzeElse t e c i .0 .measured) (ds ++ analyzeElse t e c i .1)
     walkElse noElse s a c i n q w =
         let p₁ = part a (noSymbols ∷ c .symbols) (suc n) in
         let p₂ = part noFlow (noSymbols ∷ c .symbols) (suc n + sizes a) in

@@ -1,9 +1,9 @@
 -- The errors counted, and the claim: for each operand place the error that it has, if some path reaches it with a covering mark.
-use mathlib.Core.Path.{_≡_, refl, ap}
+use mathlib.Core.Path.{_≡_, ap}
 use mathlib.Core.Bool.{Bool, true, false, cond}
 use mathlib.Core.Option.{Option, none, some}
 use mathlib.Core.List.{List, [], _∷_, List-discrete}
-use Prim.Native.Nat.{ℕ, zero, suc, _≤_, _<_}
+use Prim.Native.Nat.{ℕ, suc, _≤_, _<_}
 use native.Mathlib.Decide.{ℕ-discrete}
 use lib.Dec.{T}
 use Rattle.span.specs.declared.Span.{Span}
@@ -81,7 +81,7 @@ Named C op sp (some r) l =
 
 -- l is the error of the place q, which one of the paths j reaches with a covering mark standing
 abbrev pub Errs : {J : Type 0} → (J → State) → (J → List Step) → Place → Line → Type 0
-Errs st π q l = Named (λ i. Some st π (q .number) (λ m. T (covers m (q .op .name) i))) (q .op) (q .span) (q .op .slice) l
+Errs st π q l = Named (λ i. Some st π (q .number) (λ m. T (covers (q .symbols) m (q .op .name) i))) (q .op) (q .span) (q .op .slice) l
 
 -- over all paths of a program
 abbrev pub ErrsOn : Program → Place → Line → Type 0
@@ -89,7 +89,7 @@ ErrsOn p = Errs {J = PathOf p} (λ c. noMark) (λ c. pathSteps p c)
 
 -- the lines, in the order of the places: exactly one for each place that has one
 pub data Lists (R : Place → Line → Type 0) : List Place → List Line → Type 0 where
-  empty : Lists R [] []
+  done : Lists R [] []
   has : {q : Place} {l : Line} {qs : List Place} {ls : List Line} → R q l → Lists R qs ls → Lists R (q ∷ qs) (l ∷ ls)
   skip : {q : Place} {qs : List Place} {ls : List Line} → ((l : Line) → R q l → ⊥) → Lists R qs ls → Lists R (q ∷ qs) ls
 

@@ -1,7 +1,6 @@
 -- Which statements may come after a statement: how the paths of a tree go through it.
-use mathlib.Core.List.{List, []}
 use Rattle.ast.specs.Tree.{Stmt, Stmts, noStmt, moreStmt, Else, noElse, someElse}
-use Rattle.sema.specs.Symbols.{empty as noSymbols, Scope, gateScope, loopScope}
+use Rattle.sema.specs.Symbols.{Scope, empty as noSymbols, gateScope, loopScope}
 
 -- A statement, and what comes after it of its own: the bodies that it has, each with the scope that the body begins with.
 mutual

@@ -6,7 +6,8 @@ use mathlib.Core.Logic.{_⊎_}
 use Prim.Native.Nat.{ℕ, zero, suc, _+_, _<_}
 use Rattle.span.specs.declared.Span.{Span}
 use Rattle.ast.specs.Tree.{GateOperand, Stmt, Program}
-use Rattle.paths.specs.Flow.{Flow, Flows, alone, once, arms, loop, noFlow, moreFlow, flows}
+use Rattle.sema.specs.Symbols.{Symbols, empty as noSymbols, after}
+use Rattle.paths.specs.Flow.{Flow, Flows, alone, once, arms, loop, noFlow, moreFlow, head, flows}
 use Rattle.paths.specs.Steps.{size, sizes, Step}
 
 -- the operands that a statement uses, and its span
@@ -29,31 +30,37 @@ uses (Stmt.While at condition body sp) = ([], sp)
 
 -- "An operand place is one operand in the list of a gate call, barrier or delay; equal operands are separate places."
 pub record Place : Type 0 where
-  pub number : ℕ  -- of its statement
-  pub nth : ℕ  -- in the list, from 0
+  -- of its statement: the number in the tree, the symbols where it stands, the span
+  pub number : ℕ
+  pub symbols : Symbols
+  pub span : Span
+  -- the position in the list, from 0, and the operand there
+  pub nth : ℕ
   pub op : GateOperand
-  pub span : Span  -- of its statement
 
--- the places of a list of operands from position i on, in the statement number n with the span sp
-abbrev pub listed : ℕ → Span → ℕ → List GateOperand → List Place
-listed n sp i [] = []
-listed n sp i (op ∷ ops) = record { number = n; nth = i; op = op; span = sp } ∷ listed n sp (suc i) ops
+abbrev pub place : ℕ → Symbols → Span → ℕ → GateOperand → Place
+place n ss sp i op = record { number = n; symbols = ss; span = sp; nth = i; op = op }
 
--- the places of a tree, from the statement number n on
+-- the places of a list of operands from position i on, in the statement number n
+abbrev pub listed : ℕ → Symbols → Span → ℕ → List GateOperand → List Place
+listed n ss sp i [] = []
+listed n ss sp i (op ∷ ops) = place n ss sp i op ∷ listed n ss sp (suc i) ops
+
+-- the places of a tree, from the statement number n on, where the symbols are ss
 abbrev mutual
-  pub places₁ : Flow → ℕ → List Place
-  places₁ (alone s) n = listed n (uses s .1) 0 (uses s .0)
-  places₁ (once s sc b) n = places b (suc n)
-  places₁ (arms s a b) n = places a (suc n) ++ places b (suc n + sizes a)
-  places₁ (loop s sc b) n = places b (suc n)
+  pub places₁ : Flow → Symbols → ℕ → List Place
+  places₁ (alone s) ss n = listed n ss (uses s .1) 0 (uses s .0)
+  places₁ (once s sc b) ss n = places b (sc ∷ ss) (suc n)
+  places₁ (arms s a b) ss n = places a (noSymbols ∷ ss) (suc n) ++ places b (noSymbols ∷ ss) (suc n + sizes a)
+  places₁ (loop s sc b) ss n = places b (sc ∷ ss) (suc n)
 
-  pub places : Flows → ℕ → List Place
-  places noFlow n = []
-  places (moreFlow f r) n = places₁ f n ++ places r (n + size f)
+  pub places : Flows → Symbols → ℕ → List Place
+  places noFlow ss n = []
+  places (moreFlow f r) ss n = places₁ f ss n ++ places r (after ss (head f)) (n + size f)
 
 -- of a whole program
 abbrev pub placesOf : Program → List Place
-placesOf p = places (flows (p .statements)) 0
+placesOf p = places (flows (p .statements)) (noSymbols ∷ []) 0
 
 -- ── That each place is one place, of one statement ──
 
@@ -74,7 +81,8 @@ nthOf [] i = none
 nthOf (op ∷ ops) zero = some op
 nthOf (op ∷ ops) (suc i) = nthOf ops i
 
--- the statement x uses the operand of q, at its position, and has its span
+-- the statement x uses the operand of q, at its position, and has its span and symbols
 pub record Fits (q : Place) (x : Step) : Type 0 where
   pub operand : nthOf (uses (x .stmt) .0) (q .nth) ≡ some (q .op)
   pub span : uses (x .stmt) .1 ≡ q .span
+  pub symbols : x .symbols ≡ q .symbols

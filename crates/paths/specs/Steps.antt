@@ -6,7 +6,7 @@ use mathlib.Core.List.{List, [], _∷_, _++_}
 use mathlib.Core.Logic.{_⊎_, inl, inr}
 use Prim.Native.Nat.{ℕ, suc, _+_}
 use Rattle.ast.specs.Tree.{TextNumber, Stmt, Program}
-use Rattle.sema.specs.Symbols.{empty as noSymbols, Symbols, after}
+use Rattle.sema.specs.Symbols.{Symbols, empty as noSymbols, after}
 use Rattle.sema.specs.Marks.{Key, key, Effect, set, clear, keep, effect}
 use Rattle.paths.specs.Flow.{Flow, Flows, alone, once, arms, loop, noFlow, moreFlow, head, flows}
 
@@ -81,7 +81,8 @@ stands set b = true
 stands clear b = false
 stands keep b = b
 
--- the marks that a statement leaves standing; src/sema.rs takes them into and out of a gate definition's body from statement to statement too
+-- The marks that a statement leaves standing. src/sema.rs takes them into a gate definition's body and out of it from statement to
+-- statement too, and a function's body has no statements.
 abbrev pub next : State → Step → State
 next m x k = stands (effect (x .symbols) (x .stmt) k) (m k)
 
@@ -100,10 +101,14 @@ pub record Some {J : Type 0} (st : J → State) (π : J → List Step) (a : ℕ)
   pub path : J
   pub reaches : Reaches P (st path) (π path) a
 
+-- the key of q, or of q[i], where the symbols are ss: "Keys go by text, not by declaration."
+abbrev pub keyAt : Symbols → TextNumber → Option ℕ → Key
+keyAt ss x i = key x i
+
 -- a mark that covers q, or q[i], stands: "q by its whole key only; q[i] by its own and the whole key"
-abbrev pub covers : State → TextNumber → Option ℕ → Bool
-covers m x none = m (key x none)
-covers m x (some i) = m (key x (some i)) || m (key x none)
+abbrev pub covers : Symbols → State → TextNumber → Option ℕ → Bool
+covers ss m x none = m (keyAt ss x none)
+covers ss m x (some i) = m (keyAt ss x (some i)) || m (keyAt ss x none)
 
 -- of a whole program
 abbrev pub PathOf : Program → Type 0
