@@ -1,0 +1,262 @@
+-- What an accepted expression says of its parts, and which tree it is: for each production, the parts are accepted where they stand, the
+-- span's bytes are inside, and the whole is this value and this place. A place past a part is a number that equals its end. Assumes nothing.
+use Prim.Native.Nat.{ℕ, zero, suc, _+_, _-_, _≤_, _<_}
+use mathlib.Core.Path.{_≡_, refl, subst}
+use mathlib.Core.List.{List}
+use native.Mathlib.Omega.{arith}
+use native.Mathlib.Numerals.{sub-one}
+use lib.ListN.{length, getD}
+use Rattle.ast.specs.Tree.{Text, Expr, noExpr, moreExpr}
+use Rattle.tree.specs.Ans.{ok, Reader, refuse, IsOk, nextOf}
+use Rattle.tree.specs.Read.{bool, repeat}
+use Rattle.tree.specs.Texts.{isName, isFloat}
+use Rattle.tree.specs.Exprs.{constKind, binOp, compareOp, exprs, intLit, floatLit, boolLit, ident, index, call, const, neg, binary, compare, exprCases, expr}
+use Rattle.context.specs.View.{numberAt, spanAt}
+use Rattle.accepted.specs.Cases.{boolOf, constKindOf, binOpOf, compareOpOf, blank}
+use Rattle.accepted.specs.Parts.{valueOr, Goes, start, field, known, past, ends, stops}
+use Rattle.accepted.specs.Fields.{number-is, span-in, span-in-at, span-is, one-below, one-is, choice-in, choice-below, choice, text-in, text-in-at, text-below, text-is, repeat-first, repeat-rest, repeat-is}
+use Rattle.accepted.specs.Ends.{Moves, seq-moves, last-moves, number-moves, span-moves, one-moves, text-moves, counted-moves, none-left, and, each-moves, refuse-moves, choice-moves}
+
+module _ (s : List ℕ) (at : ℕ) where
+  bool-is : IsOk (bool s at) → bool s at ≡ ok (boolOf (getD s at 0)) (at + 1)
+  unfolding bool
+  bool-is h = one-is s at _ _ h
+
+  constKind-is : IsOk (constKind s at) → constKind s at ≡ ok (constKindOf (getD s at 0)) (at + 1)
+  unfolding constKind
+  constKind-is h = one-is s at _ _ h
+
+  binOp-is : IsOk (binOp s at) → binOp s at ≡ ok (binOpOf (getD s at 0)) (at + 1)
+  unfolding binOp
+  binOp-is h = one-is s at _ _ h
+
+  compareOp-is : IsOk (compareOp s at) → compareOp s at ≡ ok (compareOpOf (getD s at 0)) (at + 1)
+  unfolding compareOp
+  compareOp-is h = one-is s at _ _ h
+
+pub expr-in : (t : List Text) (left : ℕ) (s : List ℕ) (at : ℕ) → IsOk (expr t left s at) → at < length s
+unfolding expr
+expr-in t zero s at h = choice-in s at 10 _ (start h)
+expr-in t (suc left) s at h = choice-in s at 10 _ (start h)
+
+pub expr-below : (t : List Text) (left : ℕ) (s : List ℕ) (at : ℕ) → IsOk (expr t left s at) → getD s at 0 < 10
+unfolding expr
+expr-below t zero s at h = choice-below s at 10 _ (start h)
+expr-below t (suc left) s at h = choice-below s at 10 _ (start h)
+
+pub expr-left : (t : List Text) (left : ℕ) (s : List ℕ) (at : ℕ) → IsOk (expr t left s at) → 0 < left
+unfolding expr
+expr-left t zero s at h = absurd (stops _ _ (choice s at 10 _ (start h) _ refl))
+expr-left t (suc left) s at h = omega arith
+
+-- behind the case byte
+expr-goes : (t : List Text) (left : ℕ) (s : List ℕ) (at : ℕ) → IsOk (expr t left s at) → (c : ℕ) → getD s at 0 ≡ c → Goes (expr t left s at) (getD (exprCases t (expr t (left - 1))) c (refuse 4 at)) s (at + 1)
+unfolding expr
+expr-goes t zero s at h c e = let l = expr-left t 0 s at h in absurd (omega arith)
+expr-goes t (suc left) s at h c e = rw sub-one (choice s at 10 _ (start h) c e)
+
+cases-move : (t : List Text) (inner : Reader Expr) → Moves inner → (place c : ℕ) → Moves (getD (exprCases t inner) c (refuse 4 place))
+unfolding exprCases intLit floatLit boolLit ident index call const neg binary compare bool constKind binOp compareOp
+cases-move t inner m place c =
+    let name = text-moves t isName in
+    each-moves
+    (and (seq-moves _ (number-moves 8) (λ a. last-moves _ span-moves))
+    (and (seq-moves _ (text-moves t isFloat) (λ a. last-moves _ span-moves))
+    (and (seq-moves _ (one-moves _ _) (λ a. last-moves _ span-moves))
+    (and (seq-moves _ name (λ a. last-moves _ span-moves))
+    (and (seq-moves _ name (λ a. seq-moves _ (number-moves 8) (λ b. last-moves _ span-moves)))
+    (and (seq-moves _ name (λ a. seq-moves _ (counted-moves _ _ m) (λ b. last-moves _ span-moves)))
+    (and (seq-moves _ (one-moves _ _) (λ a. last-moves _ span-moves))
+    (and (seq-moves _ m (λ a. last-moves _ span-moves))
+    (and (seq-moves _ (one-moves _ _) (λ a. seq-moves _ m (λ b. seq-moves _ m (λ c. last-moves _ span-moves))))
+    (and (seq-moves _ (one-moves _ _) (λ a. seq-moves _ m (λ b. seq-moves _ m (λ c. last-moves _ span-moves))))
+    none-left))))))))))
+    c _ (refuse-moves 4 place)
+
+pub expr-moves : (t : List Text) (left : ℕ) → Moves (expr t left)
+unfolding expr
+expr-moves t zero = choice-moves 10 _ (λ place c. refuse-moves 6 place)
+expr-moves t (suc left) = choice-moves 10 _ (cases-move t (expr t left) (expr-moves t left))
+
+module _ (t : List Text) (left : ℕ) (s : List ℕ) (at : ℕ) (h : IsOk (expr t left s at)) where
+  pub expr-end : nextOf (expr t left s at) ≤ length s
+  expr-end = let i = expr-in t left s at h in let l : at ≤ length s = omega arith in expr-moves t left .moves s at l h .1
+
+  pub expr-ahead : at < nextOf (expr t left s at)
+  expr-ahead =
+      let g = expr-goes t left s at h (getD s at 0) refl in
+      let i = expr-in t left s at h in
+      let l : at + 1 ≤ length s = omega arith in
+      let e = cases-move t (expr t (left - 1)) (expr-moves t (left - 1)) at (getD s at 0) .moves s (at + 1) l (subst IsOk (g .is) h) in
+      rw (g .is) (omega arith)
+
+  -- an integer literal
+  module _ (b : getD s at 0 ≡ 0) where
+    pub intLit-inside : at + 17 ≤ length s
+    unfolding exprCases intLit
+    intLit-inside = span-in-at s (at + 9) _ (omega arith) (field _ _ (known _ _ (at + 9) (number-is s (at + 1) 8) (omega arith) (expr-goes t left s at h 0 b)))
+
+    pub intLit-is : expr t left s at ≡ ok (Expr.IntLit (numberAt 8 s (at + 1)) (spanAt s (at + 9))) (at + 17)
+    unfolding exprCases intLit
+    intLit-is = ends _ (known _ _ (at + 17) (span-is s (at + 9)) (omega arith) (known _ _ (at + 9) (number-is s (at + 1) 8) (omega arith) (expr-goes t left s at h 0 b)))
+
+  -- a float literal
+  module _ (b : getD s at 0 ≡ 1) where
+    pub floatLit-text : numberAt 2 s (at + 1) < length t
+    unfolding exprCases floatLit
+    floatLit-text = text-below s (at + 1) t isFloat (field _ _ (expr-goes t left s at h 1 b))
+
+    pub floatLit-inside : at + 11 ≤ length s
+    unfolding exprCases floatLit
+    floatLit-inside = span-in-at s (at + 3) _ (omega arith) (field _ _ (known _ _ (at + 3) (text-is s (at + 1) t isFloat) (omega arith) (expr-goes t left s at h 1 b)))
+
+    pub floatLit-is : expr t left s at ≡ ok (Expr.FloatLit (numberAt 2 s (at + 1)) (spanAt s (at + 3))) (at + 11)
+    unfolding exprCases floatLit
+    floatLit-is = ends _ (known _ _ (at + 11) (span-is s (at + 3)) (omega arith) (known _ _ (at + 3) (text-is s (at + 1) t isFloat) (omega arith) (expr-goes t left s at h 1 b)))
+
+  -- a bool literal
+  module _ (b : getD s at 0 ≡ 2) where
+    pub boolLit-value : getD s (at + 1) 0 < 2
+    unfolding exprCases boolLit bool
+    boolLit-value = one-below s (at + 1) _ _ (field _ _ (expr-goes t left s at h 2 b))
+
+    pub boolLit-inside : at + 10 ≤ length s
+    unfolding exprCases boolLit
+    boolLit-inside = span-in-at s (at + 2) _ (omega arith) (field _ _ (known _ _ (at + 2) (bool-is s (at + 1)) (omega arith) (expr-goes t left s at h 2 b)))
+
+    pub boolLit-is : expr t left s at ≡ ok (Expr.BoolLit (boolOf (getD s (at + 1) 0)) (spanAt s (at + 2))) (at + 10)
+    unfolding exprCases boolLit
+    boolLit-is = ends _ (known _ _ (at + 10) (span-is s (at + 2)) (omega arith) (known _ _ (at + 2) (bool-is s (at + 1)) (omega arith) (expr-goes t left s at h 2 b)))
+
+  -- a name
+  module _ (b : getD s at 0 ≡ 3) where
+    pub ident-name : numberAt 2 s (at + 1) < length t
+    unfolding exprCases ident
+    ident-name = text-below s (at + 1) t isName (field _ _ (expr-goes t left s at h 3 b))
+
+    pub ident-inside : at + 11 ≤ length s
+    unfolding exprCases ident
+    ident-inside = span-in-at s (at + 3) _ (omega arith) (field _ _ (known _ _ (at + 3) (text-is s (at + 1) t isName) (omega arith) (expr-goes t left s at h 3 b)))
+
+    pub ident-is : expr t left s at ≡ ok (Expr.Ident (numberAt 2 s (at + 1)) (spanAt s (at + 3))) (at + 11)
+    unfolding exprCases ident
+    ident-is = ends _ (known _ _ (at + 11) (span-is s (at + 3)) (omega arith) (known _ _ (at + 3) (text-is s (at + 1) t isName) (omega arith) (expr-goes t left s at h 3 b)))
+
+  -- a name with an index
+  module _ (b : getD s at 0 ≡ 4) where
+    pub index-name : numberAt 2 s (at + 1) < length t
+    unfolding exprCases index
+    index-name = text-below s (at + 1) t isName (field _ _ (expr-goes t left s at h 4 b))
+
+    pub index-inside : at + 19 ≤ length s
+    unfolding exprCases index
+    index-inside = span-in-at s (at + 11) _ (omega arith) (field _ _ (known _ _ (at + 11) (number-is s (at + 3) 8) (omega arith) (known _ _ (at + 3) (text-is s (at + 1) t isName) (omega arith) (expr-goes t left s at h 4 b))))
+
+    pub index-is : expr t left s at ≡ ok (Expr.Index (numberAt 2 s (at + 1)) (numberAt 8 s (at + 3)) (spanAt s (at + 11))) (at + 19)
+    unfolding exprCases index
+    index-is = ends _ (known _ _ (at + 19) (span-is s (at + 11)) (omega arith) (known _ _ (at + 11) (number-is s (at + 3) 8) (omega arith) (known _ _ (at + 3) (text-is s (at + 1) t isName) (omega arith) (expr-goes t left s at h 4 b))))
+
+  -- a call
+  module _ (b : getD s at 0 ≡ 5) where
+    pub call-name : numberAt 2 s (at + 1) < length t
+    unfolding exprCases call
+    call-name = text-below s (at + 1) t isName (field _ _ (expr-goes t left s at h 5 b))
+
+    pub call-name-in : at + 3 ≤ length s
+    unfolding exprCases call
+    call-name-in = text-in-at s (at + 1) _ (omega arith) t isName (field _ _ (expr-goes t left s at h 5 b))
+
+    pub call-args : IsOk (exprs (expr t (left - 1)) s (at + 3))
+    unfolding exprCases call
+    call-args = field _ _ (known _ _ (at + 3) (text-is s (at + 1) t isName) (omega arith) (expr-goes t left s at h 5 b))
+
+    pub call-inside : (k : ℕ) → k ≡ nextOf (exprs (expr t (left - 1)) s (at + 3)) → k + 8 ≤ length s
+    unfolding exprCases call
+    call-inside k k-end = span-in s k (field _ _ (past _ _ noExpr k k-end (known _ _ (at + 3) (text-is s (at + 1) t isName) (omega arith) (expr-goes t left s at h 5 b))))
+
+    pub call-is : (k : ℕ) → k ≡ nextOf (exprs (expr t (left - 1)) s (at + 3)) → expr t left s at ≡ ok (Expr.Call (numberAt 2 s (at + 1)) (valueOr noExpr (exprs (expr t (left - 1)) s (at + 3))) (spanAt s k)) (k + 8)
+    unfolding exprCases call
+    call-is k k-end = ends _ (known _ _ (k + 8) (span-is s k) (omega arith) (past _ _ noExpr k k-end (known _ _ (at + 3) (text-is s (at + 1) t isName) (omega arith) (expr-goes t left s at h 5 b))))
+
+  -- a constant
+  module _ (b : getD s at 0 ≡ 6) where
+    pub const-kind : getD s (at + 1) 0 < 3
+    unfolding exprCases const constKind
+    const-kind = one-below s (at + 1) _ _ (field _ _ (expr-goes t left s at h 6 b))
+
+    pub const-inside : at + 10 ≤ length s
+    unfolding exprCases const
+    const-inside = span-in-at s (at + 2) _ (omega arith) (field _ _ (known _ _ (at + 2) (constKind-is s (at + 1)) (omega arith) (expr-goes t left s at h 6 b)))
+
+    pub const-is : expr t left s at ≡ ok (Expr.Const (constKindOf (getD s (at + 1) 0)) (spanAt s (at + 2))) (at + 10)
+    unfolding exprCases const
+    const-is = ends _ (known _ _ (at + 10) (span-is s (at + 2)) (omega arith) (known _ _ (at + 2) (constKind-is s (at + 1)) (omega arith) (expr-goes t left s at h 6 b)))
+
+  -- a negation
+  module _ (b : getD s at 0 ≡ 7) where
+    pub neg-inner : IsOk (expr t (left - 1) s (at + 1))
+    unfolding exprCases neg
+    neg-inner = field _ _ (expr-goes t left s at h 7 b)
+
+    pub neg-inside : (k : ℕ) → k ≡ nextOf (expr t (left - 1) s (at + 1)) → k + 8 ≤ length s
+    unfolding exprCases neg
+    neg-inside k k-end = span-in s k (field _ _ (past _ _ blank k k-end (expr-goes t left s at h 7 b)))
+
+    pub neg-is : (k : ℕ) → k ≡ nextOf (expr t (left - 1) s (at + 1)) → expr t left s at ≡ ok (Expr.Neg (valueOr blank (expr t (left - 1) s (at + 1))) (spanAt s k)) (k + 8)
+    unfolding exprCases neg
+    neg-is k k-end = ends _ (known _ _ (k + 8) (span-is s k) (omega arith) (past _ _ blank k k-end (expr-goes t left s at h 7 b)))
+
+  -- an arithmetic operation
+  module _ (b : getD s at 0 ≡ 8) where
+    pub binary-op : getD s (at + 1) 0 < 5
+    unfolding exprCases binary binOp
+    binary-op = one-below s (at + 1) _ _ (field _ _ (expr-goes t left s at h 8 b))
+
+    pub binary-lhs : IsOk (expr t (left - 1) s (at + 2))
+    unfolding exprCases binary
+    binary-lhs = field _ _ (known _ _ (at + 2) (binOp-is s (at + 1)) (omega arith) (expr-goes t left s at h 8 b))
+
+    pub binary-rhs : (k : ℕ) → k ≡ nextOf (expr t (left - 1) s (at + 2)) → IsOk (expr t (left - 1) s k)
+    unfolding exprCases binary
+    binary-rhs k k-end = field _ _ (past _ _ blank k k-end (known _ _ (at + 2) (binOp-is s (at + 1)) (omega arith) (expr-goes t left s at h 8 b)))
+
+    pub binary-inside : (k : ℕ) → k ≡ nextOf (expr t (left - 1) s (at + 2)) → (m : ℕ) → m ≡ nextOf (expr t (left - 1) s k) → m + 8 ≤ length s
+    unfolding exprCases binary
+    binary-inside k k-end m m-end = span-in s m (field _ _ (past _ _ blank m m-end (past _ _ blank k k-end (known _ _ (at + 2) (binOp-is s (at + 1)) (omega arith) (expr-goes t left s at h 8 b)))))
+
+    pub binary-is : (k : ℕ) → k ≡ nextOf (expr t (left - 1) s (at + 2)) → (m : ℕ) → m ≡ nextOf (expr t (left - 1) s k) → expr t left s at ≡ ok (Expr.BinOp (binOpOf (getD s (at + 1) 0)) (valueOr blank (expr t (left - 1) s (at + 2))) (valueOr blank (expr t (left - 1) s k)) (spanAt s m)) (m + 8)
+    unfolding exprCases binary
+    binary-is k k-end m m-end = ends _ (known _ _ (m + 8) (span-is s m) (omega arith) (past _ _ blank m m-end (past _ _ blank k k-end (known _ _ (at + 2) (binOp-is s (at + 1)) (omega arith) (expr-goes t left s at h 8 b)))))
+
+  -- a comparison
+  module _ (b : getD s at 0 ≡ 9) where
+    pub compare-op : getD s (at + 1) 0 < 6
+    unfolding exprCases compare compareOp
+    compare-op = one-below s (at + 1) _ _ (field _ _ (expr-goes t left s at h 9 b))
+
+    pub compare-lhs : IsOk (expr t (left - 1) s (at + 2))
+    unfolding exprCases compare
+    compare-lhs = field _ _ (known _ _ (at + 2) (compareOp-is s (at + 1)) (omega arith) (expr-goes t left s at h 9 b))
+
+    pub compare-rhs : (k : ℕ) → k ≡ nextOf (expr t (left - 1) s (at + 2)) → IsOk (expr t (left - 1) s k)
+    unfolding exprCases compare
+    compare-rhs k k-end = field _ _ (past _ _ blank k k-end (known _ _ (at + 2) (compareOp-is s (at + 1)) (omega arith) (expr-goes t left s at h 9 b)))
+
+    pub compare-inside : (k : ℕ) → k ≡ nextOf (expr t (left - 1) s (at + 2)) → (m : ℕ) → m ≡ nextOf (expr t (left - 1) s k) → m + 8 ≤ length s
+    unfolding exprCases compare
+    compare-inside k k-end m m-end = span-in s m (field _ _ (past _ _ blank m m-end (past _ _ blank k k-end (known _ _ (at + 2) (compareOp-is s (at + 1)) (omega arith) (expr-goes t left s at h 9 b)))))
+
+    pub compare-is : (k : ℕ) → k ≡ nextOf (expr t (left - 1) s (at + 2)) → (m : ℕ) → m ≡ nextOf (expr t (left - 1) s k) → expr t left s at ≡ ok (Expr.Compare (compareOpOf (getD s (at + 1) 0)) (valueOr blank (expr t (left - 1) s (at + 2))) (valueOr blank (expr t (left - 1) s k)) (spanAt s m)) (m + 8)
+    unfolding exprCases compare
+    compare-is k k-end m m-end = ends _ (known _ _ (m + 8) (span-is s m) (omega arith) (past _ _ blank m m-end (past _ _ blank k k-end (known _ _ (at + 2) (compareOp-is s (at + 1)) (omega arith) (expr-goes t left s at h 9 b)))))
+
+-- the arguments of a call, and the parameters of a gate call: one expression more
+module _ (t : List Text) (left : ℕ) (s : List ℕ) (n k : ℕ) (h : IsOk (repeat noExpr moreExpr (expr t left) n s k)) (l : 0 < n) where
+  pub args-first : IsOk (expr t left s k)
+  args-first = repeat-first s k noExpr moreExpr (expr t left) n h l
+
+  pub args-rest : (m : ℕ) → m ≡ nextOf (expr t left s k) → IsOk (repeat noExpr moreExpr (expr t left) (n - 1) s m)
+  args-rest m e = repeat-rest s k noExpr moreExpr (expr t left) n h l m e
+
+  pub args-is : (m : ℕ) → m ≡ nextOf (expr t left s k) → repeat noExpr moreExpr (expr t left) n s k ≡ ok (moreExpr (valueOr blank (expr t left s k)) (valueOr noExpr (repeat noExpr moreExpr (expr t left) (n - 1) s m))) (nextOf (repeat noExpr moreExpr (expr t left) (n - 1) s m))
+  args-is m e = repeat-is s k noExpr moreExpr (expr t left) n h l m e blank

@@ -1,0 +1,9 @@
+pub mod Parts
+pub mod Fields
+pub mod Remains
+pub mod Ends
+pub mod Cases
+pub mod Numbers
+pub mod Exprs
+pub mod Operands
+pub mod Sizes

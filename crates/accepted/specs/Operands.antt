@@ -1,0 +1,214 @@
+-- What accepted operands, modifiers, ranges and parameters say of their parts, and which values they are. Assumes nothing.
+use Prim.Native.Nat.{ℕ, zero, suc, _+_, _≤_, _<_}
+use mathlib.Core.Path.{_≡_, refl}
+use mathlib.Core.List.{List, [], _∷_}
+use mathlib.Core.Option.{none, some}
+use native.Mathlib.Omega.{arith}
+use lib.ListN.{length, getD}
+use Rattle.ast.specs.Tree.{Text, GateModifier}
+use Rattle.tree.specs.Ans.{ok, refuse, IsOk, nextOf}
+use Rattle.tree.specs.Read.{u64, span, option, vec}
+use Rattle.tree.specs.Texts.{isName}
+use Rattle.tree.specs.Exprs.{textNumber, name, expr}
+use Rattle.tree.specs.Stmts.{classicalType, qualifier, slice, operand, held, ctrl, negCtrl, inv, pow, modifier, forRange, param}
+use Rattle.context.specs.View.{numberAt, spanAt, typeOf}
+use Rattle.accepted.specs.Cases.{qualifierOf, blank}
+use Rattle.accepted.specs.Parts.{valueOr, Goes, start, field, known, past, ends}
+use Rattle.accepted.specs.Fields.{number-in, number-is, span-in, span-in-at, span-is, one-in, one-below, one-is, choice-in, choice-below, choice, text-in, text-in-at, text-below, text-is, option-known, option-held}
+use Rattle.accepted.specs.Ends.{Moves, seq-moves, last-moves, number-moves, span-moves, one-moves, text-moves, option-moves, Each, none-left, and, each-moves, refuse-moves, choice-moves}
+use Rattle.accepted.specs.Exprs.{expr-moves}
+
+module _ (s : List ℕ) (at : ℕ) where
+  pub type-is : IsOk (classicalType s at) → classicalType s at ≡ ok (typeOf (getD s at 0)) (at + 1)
+  unfolding classicalType
+  type-is h = one-is s at _ _ h
+
+  pub qualifier-is : IsOk (qualifier s at) → qualifier s at ≡ ok (qualifierOf (getD s at 0)) (at + 1)
+  unfolding qualifier
+  qualifier-is h = one-is s at _ _ h
+
+  module _ (h : IsOk (slice s at)) where
+    pub slice-in : at + 16 ≤ length s
+    unfolding slice
+    slice-in = let i = number-in s (at + 8) 8 (field _ _ (known _ _ (at + 8) (number-is s at 8) refl (start h))) in omega arith
+
+    pub slice-is : slice s at ≡ ok (numberAt 8 s at, numberAt 8 s (at + 8)) (at + 16)
+    unfolding slice
+    slice-is = ends _ (known _ _ (at + 16) (number-is s (at + 8) 8) (omega arith) (known _ _ (at + 8) (number-is s at 8) refl (start h)))
+
+module _ (s : List ℕ) (at : ℕ) where
+  -- an Option of a number, of a slice, of a qualifier: the values behind a byte that is not 0
+  module _ (h : IsOk (option u64 s at)) (z : getD s at 0 ≡ 0 → ⊥) where
+    pub someNumber-inside : at + 9 ≤ length s
+    someNumber-inside = let i = number-in s (at + 1) 8 (option-held s at u64 h z) in omega arith
+
+    pub someNumber-is : option u64 s at ≡ ok (some (numberAt 8 s (at + 1))) (at + 9)
+    someNumber-is = option-known s at u64 h (at + 9) (number-is s (at + 1) 8) (omega arith) z
+
+  module _ (h : IsOk (option slice s at)) (z : getD s at 0 ≡ 0 → ⊥) where
+    pub someSlice-inside : at + 17 ≤ length s
+    someSlice-inside = let i = slice-in s (at + 1) (option-held s at slice h z) in omega arith
+
+    pub someSlice-is : option slice s at ≡ ok (some (numberAt 8 s (at + 1), numberAt 8 s (at + 9))) (at + 17)
+    someSlice-is = let e : at + 1 + 8 ≡ at + 9 = omega arith in rw (← e) (option-known s at slice h (at + 17) (slice-is s (at + 1)) (omega arith) z)
+
+  module _ (h : IsOk (option qualifier s at)) (z : getD s at 0 ≡ 0 → ⊥) where
+    pub someQualifier-is : option qualifier s at ≡ ok (some (qualifierOf (getD s (at + 1) 0))) (at + 2)
+    someQualifier-is = option-known s at qualifier h (at + 2) (qualifier-is s (at + 1)) (omega arith) z
+
+pub slice-moves : Moves slice
+unfolding slice
+slice-moves = seq-moves _ (number-moves 8) (λ a. last-moves _ (number-moves 8))
+
+pub qualifier-moves : Moves qualifier
+unfolding qualifier
+qualifier-moves = one-moves _ _
+
+pub operand-moves : (t : List Text) → Moves (operand t)
+unfolding operand
+operand-moves t = seq-moves _ (text-moves t isName) (λ a. seq-moves _ (option-moves (number-moves 8)) (λ b. seq-moves _ (option-moves slice-moves) (λ c. last-moves _ span-moves)))
+
+pub held-moves : (t : List Text) → Moves (held t)
+held-moves t = expr-moves t 32
+
+pub modifier-moves : (t : List Text) → Moves (modifier t)
+unfolding modifier ctrl negCtrl inv pow
+modifier-moves t =
+    let e = held-moves t in
+    choice-moves 4 _
+    (λ place c. each-moves
+    (and (seq-moves _ (option-moves e) (λ a. last-moves _ span-moves))
+    (and (seq-moves _ (option-moves e) (λ a. last-moves _ span-moves))
+    (and (last-moves _ span-moves)
+    (and (seq-moves _ e (λ a. last-moves _ span-moves))
+    none-left))))
+    c _ (refuse-moves 4 place))
+
+pub forRange-moves : (t : List Text) → Moves (forRange t)
+unfolding forRange
+forRange-moves t = seq-moves _ (held-moves t) (λ a. seq-moves _ (held-moves t) (λ b. last-moves _ (option-moves (held-moves t))))
+
+pub param-moves : (t : List Text) → Moves (param t)
+unfolding param classicalType
+param-moves t = seq-moves _ (one-moves _ _) (λ a. last-moves _ (text-moves t isName))
+
+module _ (t : List Text) (s : List ℕ) (at : ℕ) (h : IsOk (operand t s at)) where
+  pub operand-name : numberAt 2 s at < length t
+  unfolding operand
+  operand-name = text-below s at t isName (field _ _ (start h))
+
+  pub operand-name-in : at + 2 ≤ length s
+  unfolding operand
+  operand-name-in = text-in s at t isName (field _ _ (start h))
+
+  pub operand-index : IsOk (option u64 s (at + 2))
+  unfolding operand
+  operand-index = field _ _ (known _ _ (at + 2) (text-is s at t isName) (omega arith) (start h))
+
+  pub operand-slice : (k : ℕ) → k ≡ nextOf (option u64 s (at + 2)) → IsOk (option slice s k)
+  unfolding operand
+  operand-slice k k-end = field _ _ (past _ _ none k k-end (known _ _ (at + 2) (text-is s at t isName) (omega arith) (start h)))
+
+  pub operand-inside : (k : ℕ) → k ≡ nextOf (option u64 s (at + 2)) → (m : ℕ) → m ≡ nextOf (option slice s k) → m + 8 ≤ length s
+  unfolding operand
+  operand-inside k k-end m m-end = span-in s m (field _ _ (past _ _ none m m-end (past _ _ none k k-end (known _ _ (at + 2) (text-is s at t isName) (omega arith) (start h)))))
+
+  pub operand-is : (k : ℕ) → k ≡ nextOf (option u64 s (at + 2)) → (m : ℕ) → m ≡ nextOf (option slice s k) → operand t s at ≡ ok (record { name = (numberAt 2 s at); index = (valueOr none (option u64 s (at + 2))); slice = (valueOr none (option slice s k)); span = (spanAt s m) }) (m + 8)
+  unfolding operand
+  operand-is k k-end m m-end = ends _ (known _ _ (m + 8) (span-is s m) (omega arith) (past _ _ none m m-end (past _ _ none k k-end (known _ _ (at + 2) (text-is s at t isName) (omega arith) (start h)))))
+
+module _ (t : List Text) (s : List ℕ) (at : ℕ) (h : IsOk (forRange t s at)) where
+  pub forRange-start : IsOk (held t s at)
+  unfolding forRange
+  forRange-start = field _ _ (start h)
+
+  pub forRange-end : (k : ℕ) → k ≡ nextOf (held t s at) → IsOk (held t s k)
+  unfolding forRange
+  forRange-end k k-end = field _ _ (past _ _ blank k k-end (start h))
+
+  pub forRange-step : (k : ℕ) → k ≡ nextOf (held t s at) → (m : ℕ) → m ≡ nextOf (held t s k) → IsOk (option (held t) s m)
+  unfolding forRange
+  forRange-step k k-end m m-end = field _ _ (past _ _ blank m m-end (past _ _ blank k k-end (start h)))
+
+  pub forRange-is : (k : ℕ) → k ≡ nextOf (held t s at) → (m : ℕ) → m ≡ nextOf (held t s k) → (n : ℕ) → n ≡ nextOf (option (held t) s m) → forRange t s at ≡ ok (record { start = (valueOr blank (held t s at)); end = (valueOr blank (held t s k)); step = (valueOr none (option (held t) s m)) }) n
+  unfolding forRange
+  forRange-is k k-end m m-end n n-end = ends _ (past _ _ none n n-end (past _ _ blank m m-end (past _ _ blank k k-end (start h))))
+
+module _ (t : List Text) (s : List ℕ) (at : ℕ) (h : IsOk (param t s at)) where
+  pub param-type : getD s at 0 < 5
+  unfolding param classicalType
+  param-type = one-below s at _ _ (field _ _ (start h))
+
+  pub param-name : numberAt 2 s (at + 1) < length t
+  unfolding param
+  param-name = text-below s (at + 1) t isName (field _ _ (known _ _ (at + 1) (type-is s at) (omega arith) (start h)))
+
+  pub param-is : param t s at ≡ ok ((typeOf (getD s at 0)), (numberAt 2 s (at + 1))) (at + 3)
+  unfolding param
+  param-is = ends _ (known _ _ (at + 3) (text-is s (at + 1) t isName) (omega arith) (known _ _ (at + 1) (type-is s at) (omega arith) (start h)))
+
+module _ (t : List Text) (s : List ℕ) (at : ℕ) (h : IsOk (modifier t s at)) where
+  pub modifier-in : at < length s
+  unfolding modifier
+  modifier-in = choice-in s at 4 _ (start h)
+
+  pub modifier-below : getD s at 0 < 4
+  unfolding modifier
+  modifier-below = choice-below s at 4 _ (start h)
+
+  -- behind the case byte
+  modifier-goes : (c : ℕ) → getD s at 0 ≡ c → Goes (modifier t s at) (getD (ctrl t ∷ negCtrl t ∷ inv t ∷ pow t ∷ []) c (refuse 4 at)) s (at + 1)
+  unfolding modifier
+  modifier-goes c e = choice s at 4 _ (start h) c e
+
+  -- `ctrl`, with a count or without
+  module _ (b : getD s at 0 ≡ 0) where
+    pub ctrl-count : IsOk (option (held t) s (at + 1))
+    unfolding ctrl
+    ctrl-count = field _ _ (modifier-goes 0 b)
+
+    pub ctrl-inside : (k : ℕ) → k ≡ nextOf (option (held t) s (at + 1)) → k + 8 ≤ length s
+    unfolding ctrl
+    ctrl-inside k k-end = span-in s k (field _ _ (past _ _ none k k-end (modifier-goes 0 b)))
+
+    pub ctrl-is : (k : ℕ) → k ≡ nextOf (option (held t) s (at + 1)) → modifier t s at ≡ ok (GateModifier.Ctrl (valueOr none (option (held t) s (at + 1))) (spanAt s k)) (k + 8)
+    unfolding ctrl
+    ctrl-is k k-end = ends _ (known _ _ (k + 8) (span-is s k) (omega arith) (past _ _ none k k-end (modifier-goes 0 b)))
+
+  -- `negctrl`
+  module _ (b : getD s at 0 ≡ 1) where
+    pub negCtrl-count : IsOk (option (held t) s (at + 1))
+    unfolding negCtrl
+    negCtrl-count = field _ _ (modifier-goes 1 b)
+
+    pub negCtrl-inside : (k : ℕ) → k ≡ nextOf (option (held t) s (at + 1)) → k + 8 ≤ length s
+    unfolding negCtrl
+    negCtrl-inside k k-end = span-in s k (field _ _ (past _ _ none k k-end (modifier-goes 1 b)))
+
+    pub negCtrl-is : (k : ℕ) → k ≡ nextOf (option (held t) s (at + 1)) → modifier t s at ≡ ok (GateModifier.NegCtrl (valueOr none (option (held t) s (at + 1))) (spanAt s k)) (k + 8)
+    unfolding negCtrl
+    negCtrl-is k k-end = ends _ (known _ _ (k + 8) (span-is s k) (omega arith) (past _ _ none k k-end (modifier-goes 1 b)))
+
+  -- `inv`
+  module _ (b : getD s at 0 ≡ 2) where
+    pub inv-inside : at + 9 ≤ length s
+    unfolding inv
+    inv-inside = span-in-at s (at + 1) _ (omega arith) (field _ _ (modifier-goes 2 b))
+
+    pub inv-is : modifier t s at ≡ ok (GateModifier.Inv (spanAt s (at + 1))) (at + 9)
+    unfolding inv
+    inv-is = ends _ (known _ _ (at + 9) (span-is s (at + 1)) (omega arith) (modifier-goes 2 b))
+
+  -- `pow`
+  module _ (b : getD s at 0 ≡ 3) where
+    pub pow-exponent : IsOk (held t s (at + 1))
+    unfolding pow
+    pow-exponent = field _ _ (modifier-goes 3 b)
+
+    pub pow-inside : (k : ℕ) → k ≡ nextOf (held t s (at + 1)) → k + 8 ≤ length s
+    unfolding pow
+    pow-inside k k-end = span-in s k (field _ _ (past _ _ blank k k-end (modifier-goes 3 b)))
+
+    pub pow-is : (k : ℕ) → k ≡ nextOf (held t s (at + 1)) → modifier t s at ≡ ok (GateModifier.Pow (valueOr blank (held t s (at + 1))) (spanAt s k)) (k + 8)
+    unfolding pow
+    pow-is k k-end = ends _ (known _ _ (k + 8) (span-is s k) (omega arith) (past _ _ blank k k-end (modifier-goes 3 b)))

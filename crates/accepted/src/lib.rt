@@ -1,0 +1,6 @@
+// Reading of the bytes of a tree that the decoder accepts: the callers have seen the whole file accepted, and know by the laws of
+// specs/ that each part is accepted where it stands. Nothing is refused here.
+pub mod exprs;
+pub mod numbers;
+pub mod operands;
+pub mod parts;

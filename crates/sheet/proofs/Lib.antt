@@ -1,0 +1,6 @@
+pub mod Tests
+pub mod Loops
+pub mod Sheets
+pub mod Answers
+pub mod Adding
+pub mod Measured

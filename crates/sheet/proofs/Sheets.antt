@@ -1,0 +1,133 @@
+-- What is left to do in the loops that make a sheet. Assumes nothing.
+use Prim.Native.Nat.{ℕ, zero, suc, _+_, _≤_, _<_}
+use mathlib.Core.Path.{_≡_, refl, sym, _∙_}
+use mathlib.Core.List.{List, _∷_, _++_, append-assoc, append-nil}
+use mathlib.Core.Option.{Option}
+use mathlib.Core.Bool.{Bool, true, false, cond}
+use native.Mathlib.Omega.{arith}
+use native.Mathlib.Numerals.{add-one}
+use lib.ListN.{length, getD, take, drop, set, length-set, take-append-drop}
+use lib.Seq.{drop-cons, take-suc-set, drop-set-lt, set-getD, drop-length, take-length}
+use Rattle.span.specs.declared.Span.{Span}
+use Rattle.ast.specs.Tree.{GateOperand}
+use Rattle.sema.specs.Marks.{Key, apply, clearMeasured, unite}
+use Rattle.context.specs.View.{keyAt, keysIn, marksOf, measureSpan}
+use Rattle.sheet.specs.Sheet.{first, stored, united, reaches, touches, measuring, Covers}
+use Rattle.sheet.specs.Places.{first-zero, first-some}
+use Rattle.sheet.specs.Effects.{marks-set, marks-clear, marks-united}
+use Rattle.sheet.specs.Table.{length-keys}
+use Rattle.sheet.proofs.Loops.{rest, rest-more, rest-end, rest-all}
+
+-- a store at i of what is next
+module _ (r : List ℕ) (i v : ℕ) (h : i < length r) where
+  one-more : (s : List ℕ) → take i r ++ v ∷ s ≡ take (i + 1) (set r i v) ++ s
+  one-more s = rw (add-one i, take-suc-set r i v h, append-assoc) refl
+
+  left-alone : drop (i + 1) (set r i v) ≡ drop (i + 1) r
+  left-alone = drop-set-lt (i + 1) r i v (omega arith)
+
+  from-here : drop i r ≡ getD r i 0 ∷ drop (i + 1) r
+  from-here = rw (add-one i) (drop-cons r i 0 h)
+
+-- the first k keys have their places
+pub record Storing (t : Key → Bool) (p : ℕ) (index : List ℕ) (count : ℕ) (sheet r : List ℕ) (k : ℕ) : Type 0 where
+  pub within : k ≤ count
+  pub few : count ≤ 256
+  pub size : length r ≡ 256
+  pub same : stored t p (keysIn index count) sheet ≡ take k r ++ stored t p (rest index count k) (drop k r)
+
+module _ (t : Key → Bool) (p : ℕ) (index : List ℕ) (count : ℕ) (sheet : List ℕ) where
+  pub storing-start : count ≤ 256 → length sheet ≡ 256 → Storing t p index count sheet sheet 0
+  storing-start f l = record { within = omega arith; few = f; size = l; same = rw (rest-all index count) }
+
+  module _ (r r′ : List ℕ) (k : ℕ) (s : Storing t p index count sheet r k) where
+    storing-more : k < count → r′ ≡ set r k (cond (t (keyAt index k)) p (getD r k 0)) → Storing t p index count sheet r′ (k + 1)
+    unfolding stored
+    storing-more h e =
+        let v = cond (t (keyAt index k)) p (getD r k 0) in
+        let u : k < length r = omega (arith, s .few, s .size) in
+        rw e
+        (record {
+          within = omega arith;
+          few = s .few;
+          size = length-set r k v ∙ s .size;
+          same =
+              s .same
+              ∙ rw (rest-more index count k h, from-here r k 0 u, left-alone r k v u)
+              (one-more r k v u (stored t p (rest index count (k + 1)) (drop (k + 1) r)));
+        })
+
+    module _ (b : Bool) (h : k < count) (e : b ≡ t (keyAt index k)) where
+      pub storing-then : b ≡ true → r′ ≡ set r k p → Storing t p index count sheet r′ (k + 1)
+      storing-then f g = storing-more h (rw (← e, f) g)
+
+      pub storing-else : b ≡ false → r′ ≡ r → Storing t p index count sheet r′ (k + 1)
+      storing-else f g = storing-more h (rw (← e, f) (g ∙ sym (set-getD r k 0)))
+
+    pub storing-end : count ≤ k → r ≡ stored t p (keysIn index count) sheet
+    unfolding stored
+    storing-end h = sym (s .same ∙ rw (rest-end index count k h) (take-append-drop k r))
+
+pub ruleset storing = (storing-start, storing-then, storing-else, storing-end)
+
+module _ (index : List ℕ) (count : ℕ) (sheet : List ℕ) (op : GateOperand) (r : List ℕ) (f : count ≤ 256) (l : length sheet ≡ 256) where
+  fits : length (keysIn index count) ≤ length sheet
+  fits = omega (arith, length-keys index 0 count)
+
+  pub set-marks : (size : Option ℕ) (p : ℕ) → 0 < p → Covers (keysIn index count) (measuring size op) → r ≡ stored (touches false size op) p (keysIn index count) sheet
+      → (tree : List ℕ) → marksOf tree (keysIn index count) r ≡ apply (measuring size op) (measureSpan tree p) (marksOf tree (keysIn index count) sheet)
+  unfolding measuring
+  set-marks size zero h c e tree = absurd (omega arith)
+  set-marks size (suc q) h c e tree = rw e (marks-set tree (touches false size op) (keysIn index count) sheet fits q c)
+
+  pub clear-marks : (size : Option ℕ) → r ≡ stored (touches true size op) 0 (keysIn index count) sheet
+      → (tree : List ℕ) (sp : Span) → marksOf tree (keysIn index count) r ≡ apply (clearMeasured op) sp (marksOf tree (keysIn index count) sheet)
+  unfolding clearMeasured touches reaches
+  clear-marks size e tree sp = rw e (marks-clear tree (touches true size op) (keysIn index count) sheet fits sp)
+
+-- the first i places are united
+pub record Uniting (a b r : List ℕ) (i : ℕ) : Type 0 where
+  pub within : i ≤ 256
+  pub size : length r ≡ 256
+  pub left : length a ≡ 256
+  pub right : length b ≡ 256
+  pub same : united a b ≡ take i r ++ united (drop i r) (drop i b)
+
+pub uniting-start : (a b : List ℕ) → length a ≡ 256 → length b ≡ 256 → Uniting a b a 0
+uniting-start a b l m = record { within = omega arith; size = l; left = l; right = m; same = refl }
+
+module _ (a b r r′ : List ℕ) (i : ℕ) (u : Uniting a b r i) where
+  uniting-more : i < 256 → r′ ≡ set r i (first (getD r i 0) (getD b i 0)) → Uniting a b r′ (i + 1)
+  unfolding united
+  uniting-more h e =
+      let v = first (getD r i 0) (getD b i 0) in
+      let hr : i < length r = omega (arith, u .size) in
+      let hb : i < length b = omega (arith, u .right) in
+      rw e
+      (record {
+        within = omega arith;
+        size = length-set r i v ∙ u .size;
+        left = u .left;
+        right = u .right;
+        same =
+            u .same
+            ∙ rw (from-here r i 0 hr, from-here b i 0 hb, left-alone r i v hr)
+            (one-more r i v hr (united (drop (i + 1) r) (drop (i + 1) b)));
+      })
+
+  module _ (h : i < 256) where
+    pub uniting-then : getD r i 0 ≡ 0 → r′ ≡ set r i (getD b i 0) → Uniting a b r′ (i + 1)
+    uniting-then z e = uniting-more h (rw (first-zero (getD r i 0) (getD b i 0) z) e)
+
+    pub uniting-else : (getD r i 0 ≡ 0 → ⊥) → r′ ≡ r → Uniting a b r′ (i + 1)
+    uniting-else z e = uniting-more h (rw (first-some (getD r i 0) (getD b i 0) z) (e ∙ sym (set-getD r i 0)))
+
+pub uniting-end : (a b r : List ℕ) (i : ℕ) → Uniting a b r i → 256 ≤ i
+    → (tree : List ℕ) (ks : List Key) → marksOf tree ks r ≡ unite (marksOf tree ks a) (marksOf tree ks b)
+unfolding united
+uniting-end a b r i u h tree ks =
+    let e : i ≡ length r = omega (arith, u .within, u .size) in
+    let d : united a b ≡ r = u .same ∙ rw (e, drop-length r, take-length r) (append-nil r) in
+    rw (← d) (marks-united tree ks a b (u .left ∙ sym (u .right)))
+
+pub ruleset uniting = (uniting-start, uniting-then, uniting-else, uniting-end)

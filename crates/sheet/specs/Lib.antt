@@ -1,0 +1,7 @@
+pub mod Sheet
+pub mod Heads
+pub mod Places
+pub mod Effects
+pub mod Table
+pub mod Smallest
+pub mod Covering

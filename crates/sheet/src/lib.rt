@@ -1,0 +1,384 @@
+// The mark sheet: for each key of the index the place of the measure statement that marked it, or 0.
+// The walk over a tree calls these functions. Its index is the one that is made before the walk, with all keys of the tree in it.
+ghost use mathlib.Core.Path.{_≡_};
+ghost use mathlib.Core.List.{List};
+ghost use mathlib.Core.Bool.{cond, _&&_};
+ghost use mathlib.Core.Option.{none};
+ghost use Prim.Native.Nat.{ℕ, suc, _+_, _-_, _*_, _^_, _≤_, _<_, min};
+ghost use lib.Dec.{eqb};
+ghost use Rattle.span.specs.declared.Span.{Span};
+ghost use Rattle.sema.specs.Marks.{Key, key, noMarks, inSlice, isIndex, belowSize, apply, clearMeasured, unite as uniteMarks};
+ghost use Rattle.sema.specs.Keys.{sameKey, addKey, addRange, addMeasured, sizeOr0};
+ghost use Rattle.context.specs.Values.{numberOf, endsOf, operandOf};
+ghost use Rattle.context.specs.View.{keyBy, keysIn, placeIn, marksOf, measureSpan};
+ghost use Rattle.sheet.specs.Sheet.{Indexed, position, lookupIn, smaller, offer, leastIn, smallestIn, Covers, reaches, touches, measuring, stored, KeysAdded};
+use context::Ends;
+use context::GateOperand;
+use context::Number;
+
+// The smallest index of a slice that a mark covers, and the mark's place.
+pub enum Covered {
+    At(u64, u16),
+    None,
+}
+
+// The two numbers of a key are those of another.
+fn same_key(head: u64, i: u64, other: u64, j: u64) -> bool
+    ensures { λ r. ⌜ r ≡ sameKey (keyBy head i) (keyBy other j) ⌝ }
+{
+    if head == other {
+        if head % 2 == 0 {
+            return true;
+        }
+        return i == j;
+    }
+    false
+}
+
+// The number of a key, or the count where it is not there.
+fn find(index: &[u64], count: usize, head: u64, i: u64) -> usize
+    requires { ⌜ Indexed (now index) count ⌝ }
+    ensures { λ r. ⌜ r ≡ position (keysIn (now (index .entry)) count) (keyBy head i) ⌝ }
+{
+    let mut k = 0;
+    while k < count {
+        if same_key(index[256 + 2 * k], index[256 + 2 * k + 1], head, i) {
+            return k;
+        }
+        k += 1;
+    }
+    k
+}
+
+// The numbers of a key: twice its name, and 1 more if it has an index.
+fn whole_head(x: usize) -> u64
+    requires { ⌜ x < 256 ⌝ }
+    ensures { λ r. ⌜ r ≡ 2 * x ⌝ }
+{
+    2 * (x as u64)
+}
+
+fn index_head(x: usize) -> u64
+    requires { ⌜ x < 256 ⌝ }
+    ensures { λ r. ⌜ r ≡ 2 * x + 1 ⌝ }
+{
+    2 * (x as u64) + 1
+}
+
+fn place_of(sheet: [u16; 256], index: &[u64], count: usize, head: u64, i: u64) -> u16
+    requires { ⌜ Indexed (now index) count ⌝ }
+    ensures { λ r. ⌜ r ≡ placeIn (keysIn (now (index .entry)) count) sheet (keyBy head i) ⌝ }
+{
+    let k = find(index, count, head, i);
+    if k < count { sheet[k] } else { 0 }
+}
+
+// The place of the mark that covers a name, or an index of it; 0 where there is none.
+pub fn lookup(sheet: [u16; 256], index: &[u64], count: usize, x: usize, i: Number) -> u16
+    requires { ⌜ Indexed (now index) count ⌝ }
+    requires { ⌜ x < 256 ⌝ }
+    ensures { λ r. ⌜ r ≡ lookupIn (keysIn (now (index .entry)) count) sheet x (numberOf i) ⌝ }
+{
+    match i {
+        Number::Some(j) => {
+            let own = place_of(sheet, index, count, index_head(x), j);
+            if own == 0 {
+                return place_of(sheet, index, count, whole_head(x), 0);
+            }
+            own
+        }
+        Number::None => place_of(sheet, index, count, whole_head(x), 0),
+    }
+}
+
+// The key has an index of the slice.
+fn within(head: u64, i: u64, a: u64, b: u64) -> bool
+    ensures { λ r. ⌜ r ≡ inSlice (a, b) (keyBy head i .index) ⌝ }
+{
+    if head % 2 == 0 {
+        return false;
+    }
+    if i < a {
+        return false;
+    }
+    i <= b
+}
+
+fn is_index(head: u64, i: u64, j: u64) -> bool
+    ensures { λ r. ⌜ r ≡ isIndex j (keyBy head i .index) ⌝ }
+{
+    if head % 2 == 0 {
+        return false;
+    }
+    i == j
+}
+
+// The whole key, or an index below the size.
+fn below_size(size: Number, head: u64, i: u64) -> bool
+    ensures { λ r. ⌜ r ≡ belowSize (numberOf size) (keyBy head i .index) ⌝ }
+{
+    if head % 2 == 0 {
+        return true;
+    }
+    match size {
+        Number::Some(n) => i < n,
+        Number::None => false,
+    }
+}
+
+fn nearer(i: u64, place: u16, best: Covered) -> Covered
+    ensures { λ r. ⌜ r ≡ smaller i place best ⌝ }
+{
+    match best {
+        Covered::At(j, q) => {
+            if i <= j {
+                return Covered::At(i, place);
+            }
+            Covered::At(j, q)
+        }
+        Covered::None => Covered::At(i, place),
+    }
+}
+
+fn offered(best: Covered, x: usize, a: u64, b: u64, head: u64, i: u64, place: u16) -> Covered
+    ensures { λ r. ⌜ r ≡ cond (eqb (keyBy head i .name) x && inSlice (a, b) (keyBy head i .index)) (offer (keyBy head i .index) place best) best ⌝ }
+{
+    if head / 2 == x as u64 {
+        if within(head, i, a, b) {
+            if place == 0 {
+                return best;
+            }
+            return nearer(i, place, best);
+        }
+        return best;
+    }
+    best
+}
+
+// The smallest index of a slice whose own key is marked.
+fn least(sheet: [u16; 256], index: &[u64], count: usize, x: usize, a: u64, b: u64) -> Covered
+    requires { ⌜ Indexed (now index) count ⌝ }
+    ensures { λ r. ⌜ r ≡ leastIn x (a, b) (keysIn (now (index .entry)) count) sheet ⌝ }
+{
+    let mut best = Covered::None;
+    let mut k = count;
+    while 0 < k {
+        k -= 1;
+        best = offered(
+            best,
+            x,
+            a,
+            b,
+            index[256 + 2 * k],
+            index[256 + 2 * k + 1],
+            sheet[k],
+        );
+    }
+    best
+}
+
+// The smallest index of a slice that a mark covers.
+pub fn smallest(sheet: [u16; 256], index: &[u64], count: usize, x: usize, a: u64, b: u64) -> Covered
+    requires { ⌜ Indexed (now index) count ⌝ }
+    requires { ⌜ x < 256 ⌝ }
+    ensures { λ r. ⌜ r ≡ smallestIn (keysIn (now (index .entry)) count) sheet x (a, b) ⌝ }
+{
+    if b < a {
+        return Covered::None;
+    }
+    if place_of(sheet, index, count, whole_head(x), 0) == 0 {
+        return least(sheet, index, count, x, a, b);
+    }
+    Covered::At(a, lookup(sheet, index, count, x, Number::Some(a)))
+}
+
+// A measure of the operand sets the key, or a reset (all) clears it, where its name is the operand's.
+fn in_reach(slice: Ends, at: Number, size: Number, all: bool, head: u64, i: u64) -> bool
+    ensures { λ r. ⌜ r ≡ reaches all (numberOf size) (endsOf slice) (numberOf at) (keyBy head i .index) ⌝ }
+{
+    match slice {
+        Ends::Some(a, b) => within(head, i, a, b),
+        Ends::None => match at {
+            Number::Some(j) => is_index(head, i, j),
+            Number::None => {
+                if all {
+                    return true;
+                }
+                below_size(size, head, i)
+            }
+        },
+    }
+}
+
+fn touched(op: GateOperand, size: Number, all: bool, head: u64, i: u64) -> bool
+    ensures { λ r. ⌜ r ≡ touches all (numberOf size) (operandOf op) (keyBy head i) ⌝ }
+{
+    let name = op.name;
+    let slice = op.slice;
+    let at = op.index;
+    if head / 2 == name as u64 {
+        return in_reach(slice, at, size, all, head, i);
+    }
+    false
+}
+
+fn store(
+    sheet: [u16; 256],
+    index: &[u64],
+    count: usize,
+    op: GateOperand,
+    size: Number,
+    all: bool,
+    place: u16,
+) -> [u16; 256]
+    requires { ⌜ Indexed (now index) count ⌝ }
+    ensures { λ r. ⌜ r ≡ stored (touches all (numberOf size) (operandOf op)) place (keysIn (now (index .entry)) count) sheet ⌝ }
+{
+    let mut r = sheet;
+    let mut k = 0;
+    while k < count {
+        if touched(op, size, all, index[256 + 2 * k], index[256 + 2 * k + 1]) {
+            r[k] = place;
+        }
+        k += 1;
+    }
+    r
+}
+
+// `mark_measured` by the measure statement at a place, where the operand's name shows a size. The keys of the index are all that the
+// tree's measure statements set.
+pub fn set(
+    sheet: [u16; 256],
+    index: &[u64],
+    count: usize,
+    op: GateOperand,
+    size: Number,
+    place: u16,
+) -> [u16; 256]
+    requires { ⌜ Indexed (now index) count ⌝ }
+    requires { ⌜ 0 < place ⌝ }
+    requires { ⌜ Covers (keysIn (now index) count) (measuring (numberOf size) (operandOf op)) ⌝ }
+    ensures { λ r. ⌜ ((tree : List ℕ) → marksOf tree (keysIn (now (index .entry)) count) r ≡ apply (measuring (numberOf size) (operandOf op)) (measureSpan tree place) (marksOf tree (keysIn (now (index .entry)) count) sheet)) ⌝ }
+{
+    store(sheet, index, count, op, size, false, place)
+}
+
+// `clear_measured`.
+pub fn clear(sheet: [u16; 256], index: &[u64], count: usize, op: GateOperand) -> [u16; 256]
+    requires { ⌜ Indexed (now index) count ⌝ }
+    ensures { λ r. ⌜ ((tree : List ℕ) (sp : Span) → marksOf tree (keysIn (now (index .entry)) count) r ≡ apply (clearMeasured (operandOf op)) sp (marksOf tree (keysIn (now (index .entry)) count) sheet)) ⌝ }
+{
+    store(sheet, index, count, op, Number::None, true, 0)
+}
+
+// Both exits of a branch: the marks of a, and where it has none those of b.
+pub fn unite(a: [u16; 256], b: [u16; 256]) -> [u16; 256]
+    ensures { λ r. ⌜ ((tree : List ℕ) (ks : List Key) → marksOf tree ks r ≡ uniteMarks (marksOf tree ks a) (marksOf tree ks b)) ⌝ }
+{
+    let mut r = a;
+    let mut i = 0;
+    while i < 256 {
+        if r[i] == 0 {
+            r[i] = b[i];
+        }
+        i += 1;
+    }
+    r
+}
+
+pub fn blank() -> [u16; 256]
+    ensures { λ r. ⌜ ((tree : List ℕ) (ks : List Key) → marksOf tree ks r ≡ noMarks) ⌝ }
+{
+    [0u16; 256]
+}
+
+// A key more, if it is not there; 257 where there is no room, and the index is as it was.
+pub fn add_key(index: &mut [u64], count: usize, head: u64, i: u64) -> usize
+    requires { ⌜ Indexed (now index) count ⌝ }
+    ensures added { λ r. ⌜ KeysAdded (now (index .entry)) (now (index .exit)) r (addKey (keysIn (now (index .entry)) count) (keyBy head i)) ⌝ }
+    ensures over { λ r. ⌜ (r ≡ 257 → now (index .exit) ≡ now (index .entry)) ⌝ }
+{
+    let k = find(index, count, head, i);
+    if k < count {
+        return count;
+    }
+    if count == 256 {
+        return 257;
+    }
+    index[256 + 2 * count] = head;
+    index[256 + 2 * count + 1] = i;
+    count + 1
+}
+
+fn at_most_257(n: u64) -> u64
+    ensures { λ r. ⌜ r ≡ min n 257 ⌝ }
+{
+    if n < 257 { n } else { 257 }
+}
+
+// So many indices of a name, from i on; 257 where there is no room for all.
+pub fn add_range(index: &mut [u64], count: usize, x: usize, i: u64, n: u64) -> usize
+    requires { ⌜ Indexed (now index) count ⌝ }
+    requires { ⌜ (x < 256) × (i + n ≤ 2 ^ 64) ⌝ }
+    ensures { λ r. ⌜ KeysAdded (now (index .entry)) (now (index .exit)) r (addRange (keysIn (now (index .entry)) count) x i n) ⌝ }
+{
+    let head = index_head(x);
+    let m = at_most_257(n);
+    let mut c = count;
+    let mut j = 0;
+    while j < m {
+        c = add_key(index, c, head, i + j);
+        if c == 257 {
+            return 257;
+        }
+        j += 1;
+    }
+    c
+}
+
+// Each index of a slice.
+fn add_slice(index: &mut [u64], count: usize, x: usize, a: u64, b: u64) -> usize
+    requires { ⌜ Indexed (now index) count ⌝ }
+    requires { ⌜ x < 256 ⌝ }
+    ensures { λ r. ⌜ KeysAdded (now (index .entry)) (now (index .exit)) r (addRange (keysIn (now (index .entry)) count) x a (suc b - a)) ⌝ }
+{
+    if b < a {
+        return count;
+    }
+    let n = at_most_257(b - a);
+    add_range(index, count, x, a, n + 1)
+}
+
+// The whole key, and each index below the size.
+fn add_whole(index: &mut [u64], count: usize, x: usize, size: Number) -> usize
+    requires { ⌜ Indexed (now index) count ⌝ }
+    requires { ⌜ x < 256 ⌝ }
+    ensures { λ r. ⌜ KeysAdded (now (index .entry)) (now (index .exit)) r (addRange (addKey (keysIn (now (index .entry)) count) (key x none)) x 0 (sizeOr0 (numberOf size))) ⌝ }
+{
+    let c = add_key(index, count, whole_head(x), 0);
+    if c == 257 {
+        return 257;
+    }
+    match size {
+        Number::Some(n) => add_range(index, c, x, 0, n),
+        Number::None => c,
+    }
+}
+
+// The keys that a measure of the operand sets, where its name shows a size; 257 where there is no room for all.
+pub fn add_measured(index: &mut [u64], count: usize, op: GateOperand, size: Number) -> usize
+    requires { ⌜ Indexed (now index) count ⌝ }
+    requires { ⌜ op .name < 256 ⌝ }
+    ensures { λ r. ⌜ KeysAdded (now (index .entry)) (now (index .exit)) r (addMeasured (keysIn (now (index .entry)) count) (op .name) (numberOf size) (endsOf (op .slice)) (numberOf (op .index))) ⌝ }
+{
+    let x = op.name;
+    let slice = op.slice;
+    let at = op.index;
+    match slice {
+        Ends::Some(a, b) => add_slice(index, count, x, a, b),
+        Ends::None => match at {
+            Number::Some(i) => add_key(index, count, index_head(x), i),
+            Number::None => add_whole(index, count, x, size),
+        },
+    }
+}

@@ -1,0 +1,158 @@
+-- An entry's fields stored one after the other are the entry stored. Assumes nothing.
+use Prim.Native.Nat.{ℕ, zero, suc, _+_, _-_, _*_, _≤_, _<_}
+use mathlib.Core.Path.{_≡_, refl, sym, ap, _∙_, subst}
+use mathlib.Core.List.{List, [], _∷_, _++_, append-nil}
+use mathlib.Core.Option.{Option, none, some}
+use native.Mathlib.Omega.{arith}
+use native.Mathlib.Nat.{add-zero}
+use native.Mathlib.Numerals.{add-one, towards-suc}
+use lib.ListN.{length, getD, set, drop, replicate, length-set}
+use lib.Seq.{sets}
+use borrow.Author.Fill.{fill-none, fill-more}
+use Rattle.span.specs.declared.Span.{Span}
+use Rattle.ast.specs.declared.ClassicalType.{ClassicalType}
+use Rattle.types.specs.Types.{numberOf}
+use Rattle.tree.specs.Encode.{big}
+use Rattle.tree.specs.Fits.{NumberFits, OptionFits}
+use Rattle.sema.specs.Symbols.{Symbol, GateSig}
+use Rattle.context.specs.declared.Number.{Number}
+use Rattle.context.specs.Values.{numberOf as sizeOf}
+use Rattle.tables.specs.Entries.{codeOf, spanBytes, sizeBytes, symbolBytes, gateBytes, typeBytes, functionBytes, emptied}
+use Rattle.tables.specs.Tables.{cleared}
+use Rattle.tables.proofs.Bytes.{length-big}
+
+sets-append : (xs ys : List ℕ) (s : List ℕ) (at : ℕ) → sets s at (xs ++ ys) ≡ sets (sets s at xs) (at + length xs) ys
+sets-append [] ys s at = rw (add-zero at)
+sets-append (x ∷ xs) ys s at =
+    let e : suc at + length xs ≡ at + suc (length xs) = omega arith in
+    sets-append xs ys (set s at x) (suc at) ∙ rw e
+
+-- two runs of stores, one behind the other
+pub joined : (xs ys : List ℕ) (s t u : List ℕ) (at n : ℕ) → length xs ≡ n → t ≡ sets s at xs → u ≡ sets t (at + n) ys → u ≡ sets s at (xs ++ ys)
+joined xs ys s t u at n l e f = f ∙ rw (e, ← l) (sym (sets-append xs ys s at))
+
+pub span-stored : (s t u : List ℕ) (at : ℕ) (sp : Span) → t ≡ sets s at (big 4 (sp .start)) → u ≡ sets t (at + 4) (big 4 (sp .end)) → u ≡ sets s at (spanBytes sp)
+span-stored s t u at sp e f = joined (big 4 (sp .start)) (big 4 (sp .end)) s t u at 4 (length-big 4 (sp .start)) e f
+
+pub length-span : (sp : Span) → length (spanBytes sp) ≡ 8
+unfolding big
+length-span sp = refl
+
+length-size : (z : Option ℕ) → length (sizeBytes z) ≡ 9
+unfolding big
+length-size none = refl
+length-size (some n) = refl
+
+-- a byte, and more behind it
+pub headed : (s t u : List ℕ) (at b : ℕ) (xs : List ℕ) → t ≡ set s at b → u ≡ sets t (at + 1) xs → u ≡ sets s at (b ∷ xs)
+headed s t u at b xs e f = rw (add-one, e) at f
+
+pub size-stored : (s t u : List ℕ) (at n : ℕ) (z : Number) → z ≡ Number.Some n → t ≡ set s at 1 → u ≡ sets t (at + 1) (big 8 n) → u ≡ sets s at (sizeBytes (sizeOf z))
+size-stored s t u at n z h e f = rw h (headed s t u at 1 (big 8 n) e f)
+
+pub no-size-stored : (s t u : List ℕ) (at : ℕ) (z : Number) → z ≡ Number.None → t ≡ set s at 0 → u ≡ sets t (at + 1) (big 8 0) → u ≡ sets s at (sizeBytes (sizeOf z))
+no-size-stored s t u at z h e f = rw h (headed s t u at 0 (big 8 0) e f)
+
+pub size-fits : (z : Number) (n : ℕ) → z ≡ Number.Some n → n < 18446744073709551616 → OptionFits (NumberFits 8) (sizeOf z)
+unfolding OptionFits
+size-fits z n e h = rw e h
+
+pub no-size-fits : (z : Number) → z ≡ Number.None → OptionFits (NumberFits 8) (sizeOf z)
+unfolding OptionFits
+no-size-fits z e = rw e tt
+
+pub symbol-stored : (s t u v : List ℕ) (at code : ℕ) (sym : Symbol) → code ≡ codeOf (sym .kind) → t ≡ set s at code → u ≡ sets t (at + 1) (sizeBytes (sym .size)) → v ≡ sets u (at + 10) (spanBytes (sym .decl-span)) → v ≡ sets s at (symbolBytes sym)
+unfolding symbolBytes
+symbol-stored s t u v at code sym c e f g =
+    let h : u ≡ sets s at (codeOf (sym .kind) ∷ sizeBytes (sym .size)) = headed s t u at (codeOf (sym .kind)) (sizeBytes (sym .size)) (rw c at e) f in
+    joined (codeOf (sym .kind) ∷ sizeBytes (sym .size)) (spanBytes (sym .decl-span)) s u v at 10 (ap suc (length-size (sym .size))) h g
+
+-- three bytes, and more behind them
+threes : (s t u v w : List ℕ) (at a b c : ℕ) (xs : List ℕ) → t ≡ set s at a → u ≡ set t (at + 1) b → v ≡ set u (at + 2) c → w ≡ sets v (at + 3) xs → w ≡ sets s at (a ∷ b ∷ c ∷ xs)
+threes s t u v w at a b c xs d e f g = simp (d, e, f, towards-suc) at g
+
+pub gate-stored : (s t u v w : List ℕ) (at : ℕ) (g : GateSig) → t ≡ set s at 1 → u ≡ set t (at + 1) (g .param-count) → v ≡ set u (at + 2) (g .qubit-count) → w ≡ sets v (at + 3) (spanBytes (g .decl-span)) → w ≡ sets s at (gateBytes g)
+unfolding gateBytes
+gate-stored s t u v w at g = threes s t u v w at 1 (g .param-count) (g .qubit-count) (spanBytes (g .decl-span))
+
+pub function-stored : (s t u v w : List ℕ) (at n count : ℕ) (ty : ClassicalType) (sp : Span) → n ≡ numberOf ty → t ≡ set s at 1 → u ≡ set t (at + 1) n → v ≡ set u (at + 2) count → w ≡ sets v (at + 3) (spanBytes sp) → w ≡ sets s at (functionBytes ty sp count [])
+unfolding functionBytes
+function-stored s t u v w at n count ty sp h d e f g =
+    rw (h, ← append-nil (spanBytes sp)) at (threes s t u v w at 1 n count (spanBytes sp) d e f g)
+
+-- the head of a function's entry, and its types
+pub function-typed : (s t u : List ℕ) (at count : ℕ) (ty : ClassicalType) (sp : Span) (types : List ℕ) → t ≡ sets s at (functionBytes ty sp count []) → u ≡ sets t (at + 11) types → u ≡ sets s at (functionBytes ty sp count types)
+unfolding functionBytes big
+function-typed s t u at count ty sp types e f = joined (functionBytes ty sp count []) types s t u at 11 refl e f
+
+-- of the types of a function i are stored
+pub record Copying (s : List ℕ) (to : ℕ) (tree : List ℕ) (at count : ℕ) (t : List ℕ) (i : ℕ) : Type 0 where
+  pub within : i ≤ count
+  pub size : length t ≡ length s
+  pub same : sets t (to + i) (typeBytes tree (at + 3 * i) (count - i)) ≡ sets s to (typeBytes tree at count)
+
+pub copying-start : (s : List ℕ) (to : ℕ) (tree : List ℕ) (at count : ℕ) → Copying s to tree at count s 0
+copying-start s to tree at count =
+    let e : to + 0 ≡ to = omega arith in
+    let f : at + 3 * 0 ≡ at = omega arith in
+    let g : count - 0 ≡ count = omega arith in
+    record { within = omega arith; size = refl; same = rw (e, f, g) }
+
+module _ {s : List ℕ} {to : ℕ} {tree : List ℕ} {at count : ℕ} {t : List ℕ} {i : ℕ} (r : Copying s to tree at count t i) where
+  pub copying-more : i < count → Copying s to tree at count (set t (to + i) (getD tree (at + 3 * i) 0)) (i + 1)
+  unfolding typeBytes
+  copying-more h =
+      let e : count - i ≡ suc (count - (i + 1)) = omega arith in
+      let f : suc (to + i) ≡ to + (i + 1) = omega arith in
+      let g : at + 3 * i + 3 ≡ at + 3 * (i + 1) = omega arith in
+      record {
+        within = omega arith;
+        size = length-set t (to + i) (getD tree (at + 3 * i) 0) ∙ r .size;
+        same = rw (← f, ← g) (rw e at (r .same));
+      }
+
+  pub copying-end : count ≤ i → t ≡ sets s to (typeBytes tree at count)
+  unfolding typeBytes
+  copying-end h = let e : count - i ≡ 0 = omega arith in rw e at (r .same)
+
+-- of the entries of a level some are still to be emptied
+pub record Emptying (s : List ℕ) (base : ℕ) (t : List ℕ) (at left : ℕ) : Type 0 where
+  pub within : at + left * 18 ≡ base + 4608
+  pub size : length t ≡ length s
+  pub same : emptied t at left ≡ emptied s base 256
+
+pub emptying-start : (s : List ℕ) (base : ℕ) → Emptying s base s base 256
+emptying-start s base = record { within = refl; size = refl; same = refl }
+
+module _ {s : List ℕ} {base : ℕ} {t : List ℕ} {at left : ℕ} (r : Emptying s base t at left) where
+  pub emptying-more : 0 < left → Emptying s base (set t at 0) (at + 18) (left - 1)
+  unfolding emptied
+  emptying-more h =
+      let e : left ≡ suc (left - 1) = omega arith in
+      record { within = omega (arith, r .within); size = length-set t at 0 ∙ r .size; same = rw e at (r .same) }
+
+  pub emptying-end : left ≤ 0 → t ≡ emptied s base 256
+  unfolding emptied
+  emptying-end h = let e : left ≡ 0 = omega arith in rw e at (r .same)
+
+-- the first i bytes are cleared
+pub record Clearing (s t : List ℕ) (i : ℕ) : Type 0 where
+  pub within : i ≤ 65536
+  pub size : length t ≡ length s
+  pub same : t ≡ replicate i 0 ++ drop i s
+
+pub clearing-start : (s : List ℕ) → Clearing s s 0
+clearing-start s = record { within = omega arith; size = refl; same = fill-none s 0 }
+
+module _ {s t : List ℕ} {i : ℕ} (r : Clearing s t i) where
+  pub clearing-more : i < 65536 → 65536 ≤ length s → Clearing s (set t i 0) (i + 1)
+  clearing-more h room =
+      record {
+        within = omega arith;
+        size = length-set t i 0 ∙ r .size;
+        same = ap (λ (l : List ℕ). set l i 0) (r .same) ∙ fill-more i 0 s (omega arith);
+      }
+
+  pub clearing-end : 65536 ≤ i → t ≡ cleared s
+  unfolding cleared
+  clearing-end h = let e : i ≡ 65536 = omega (arith, r .within) in subst (λ (n : ℕ). t ≡ replicate n 0 ++ drop n s) e (r .same)

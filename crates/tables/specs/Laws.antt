@@ -1,0 +1,82 @@
+-- Laws of the tables for those who call this crate. Assumes nothing.
+use Prim.Native.Nat.{ℕ, suc, _+_, _*_, _≤_, _<_}
+use mathlib.Core.Path.{_≡_, refl, ap, _∙_, fun-ext}
+use mathlib.Core.List.{List, [], _∷_, _++_}
+use mathlib.Core.Bool.{Bool, true, false}
+use mathlib.Core.Option.{Option, none, some}
+use native.Mathlib.Omega.{arith}
+use lib.ListN.{length, getD, drop, replicate, length-replicate, getD-replicate, List·getD-append}
+use lib.Dec.{ltb, eqb}
+use borrow.Author.Tests.{ltb-true}
+use Rattle.sema.specs.Symbols.{Symbol, FunctionSig, Table, Scope, Symbols, empty, insert, insertCurrent, GateSig}
+use Rattle.context.specs.View.{below256, symbolPlace, scopeOf, scopesOf, gatePlace, gatesOf, functionPlace, functionsOf}
+use Rattle.tables.specs.Tables.{Becomes, paramsOf, FewParams, cleared}
+
+-- a scope is left by counting one less
+pub leave : (s : List ℕ) (depth : ℕ) → scopesOf s (suc depth) ≡ scopeOf s depth ∷ scopesOf s depth
+unfolding scopesOf
+leave s depth = refl
+
+abbrev outer : Symbols → Symbols
+outer [] = []
+outer (c ∷ ss) = ss
+
+-- the scopes below a level are what lies below it in the list
+pub scopes-below : {s t : List ℕ} {depth : ℕ} {c : Scope} {ss : Symbols} {gates : Table GateSig} {functions : Table FunctionSig} → Becomes s t (suc depth) (c ∷ ss) gates functions → scopesOf t depth ≡ ss
+unfolding scopesOf
+scopes-below b = ap outer (b .scopes-are)
+
+-- so a symbol given at a level leaves the scopes below it
+pub insert-below : {s t : List ℕ} {depth : ℕ} (x : ℕ) (sym : Symbol) {gates : Table GateSig} {functions : Table FunctionSig} → Becomes s t (suc depth) (insertCurrent (scopesOf s (suc depth)) x sym) gates functions → scopesOf t depth ≡ scopesOf s depth
+unfolding scopesOf
+insert-below x sym b = ap outer (b .scopes-are)
+
+-- Tables whose first bytes are 0 are empty.
+none-below : {A : Type 0} (f : ℕ → Option A) → ((x : ℕ) → x < 256 → f x ≡ none) → _≡_ {A = Table A} (λ x. below256 x (f x)) empty
+none-below f h = fun-ext (λ x. at x (ltb x 256) refl)
+  where
+    at : (x : ℕ) (b : Bool) → ltb x 256 ≡ b → below256 x (f x) ≡ none
+    at x true e = rw e (h x (ltb-true x 256 e))
+    at x false e = rw e
+
+pub scope-empty : (s : List ℕ) (level : ℕ) → ((x : ℕ) → x < 256 → getD s (symbolPlace level x) 0 ≡ 0) → scopeOf s level ≡ empty
+unfolding scopeOf
+scope-empty s level h = none-below _ (λ x l. rw (h x l))
+
+pub gates-empty : (s : List ℕ) → ((x : ℕ) → x < 256 → getD s (gatePlace x) 0 ≡ 0) → gatesOf s ≡ empty
+unfolding gatesOf
+gates-empty s h = none-below _ (λ x l. rw (h x l))
+
+pub functions-empty : (s : List ℕ) → ((x : ℕ) → x < 256 → getD s (functionPlace x) 0 ≡ 0) → functionsOf s ≡ empty
+unfolding functionsOf
+functions-empty s h = none-below _ (λ x l. rw (h x l))
+
+-- A cleared scratch has one empty scope, no gates and no functions.
+zeros : (n : ℕ) (rest : List ℕ) (i : ℕ) → i < n → getD (replicate n 0 ++ rest) i 0 ≡ 0
+zeros n rest i h = List·getD-append (replicate n 0) rest 0 i (rw length-replicate h) ∙ getD-replicate n i 0 0 h
+
+cleared-byte : (s : List ℕ) (i : ℕ) → i < 65536 → getD (cleared s) i 0 ≡ 0
+unfolding cleared
+cleared-byte s i h = zeros 65536 (drop 65536 s) i h
+
+pub cleared-scopes : (s : List ℕ) → scopesOf (cleared s) 1 ≡ empty ∷ []
+unfolding scopesOf
+cleared-scopes s = ap (λ (c : Scope). c ∷ []) (scope-empty (cleared s) 0 (λ x h. cleared-byte s (symbolPlace 0 x) (omega arith)))
+
+pub cleared-gates : (s : List ℕ) → gatesOf (cleared s) ≡ empty
+cleared-gates s = gates-empty (cleared s) (λ x h. cleared-byte s (gatePlace x) (omega arith))
+
+pub cleared-functions : (s : List ℕ) → functionsOf (cleared s) ≡ empty
+cleared-functions s = functions-empty (cleared s) (λ x h. cleared-byte s (functionPlace x) (omega arith))
+
+-- No function has more than 16 parameters: at first, and after a definition with no more.
+pub few-empty : FewParams empty
+few-empty = record { few = λ x. omega arith }
+
+pub few-insert : (t : Table FunctionSig) (x : ℕ) (f : FunctionSig) → FewParams t → length (f .params) ≤ 16 → FewParams (insert t x f)
+unfolding insert
+few-insert t x f h l = record { few = λ y. at y (eqb x y) refl }
+  where
+    at : (y : ℕ) (b : Bool) → eqb x y ≡ b → length (paramsOf (insert t x f y)) ≤ 16
+    at y true e = rw e l
+    at y false e = rw e (h .few y)

@@ -1,0 +1,376 @@
+// The symbols, gates and functions that a walk has met, as tables in the lent scratch. The layout is that of the context's views. The
+// walk lends a scratch of at least 65,536 bytes, names texts by numbers below 256, and has at most 9 scopes.
+use ast::ClassicalType;
+use context::FoundFunction;
+use context::FoundGate;
+use context::FoundSymbol;
+use context::FunctionSig;
+use context::GateSig;
+use context::Number;
+use context::Symbol;
+use context::SymbolKind;
+use span::Span;
+ghost use mathlib.Core.Path.{_≡_};
+ghost use Prim.Native.Nat.{suc, _+_, _-_, _*_, _^_, _≤_, _<_};
+ghost use mathlib.Core.List.{[], _∷_};
+ghost use lib.ListN.{length, getD, set};
+ghost use lib.Seq.{sets};
+ghost use Rattle.types.specs.Types.{numberOf};
+ghost use Rattle.tree.specs.Encode.{big};
+ghost use Rattle.tree.specs.Fits.{NumberFits, SpanFits, OptionFits};
+ghost use Rattle.sema.specs.Messages.{Qubit};
+ghost use Rattle.sema.specs.Symbols.{empty, insert, get, getCurrent, insertCurrent};
+ghost use Rattle.context.specs.Values.{kindOf, numberOf as sizeOf, symbolOf, foundOf, gateOf, foundGateOf};
+ghost use Rattle.context.specs.View.{numberAt, spanAt, typeOf, kinds, sizeBy, symbolAt, symbolSize, levelSize, scopesOf, gatesOf, functionsOf};
+ghost use Rattle.tables.specs.Entries.{SymbolFits, codeOf, spanBytes, sizeBytes, symbolBytes, gateBytes, typeBytes, functionBytes, emptied};
+ghost use Rattle.tables.specs.Tables.{Becomes, KeepsScopes, briefOf, paramsOf, FewParams, functionIn, cleared};
+
+const SYMBOL: usize = 18;
+
+const LEVEL: usize = 4608;
+
+const GATES: usize = 41472;
+
+const GATE: usize = 11;
+
+const FUNCTIONS: usize = 44288;
+
+const FUNCTION: usize = 27;
+
+fn wide(x: u8) -> u64
+    ensures { λ r. ⌜ (r ≡ x) × (r < 256) ⌝ }
+{
+    x as u64
+}
+
+// The number in so many bytes at a place.
+fn number(s: &[u8], at: usize, width: usize) -> u64
+    requires { ⌜ (width ≤ 8) × (at + width ≤ length (now s)) ⌝ }
+    ensures { λ r. ⌜ (r ≡ numberAt width (now (s .entry)) at) × (r < 256 ^ width) ⌝ }
+{
+    let mut v: u64 = 0;
+    let mut i = 0;
+    while i < width {
+        v = v * 256 + wide(s[at + i]);
+        i += 1;
+    }
+    v
+}
+
+// Stores a number in so many bytes, the last byte first.
+fn store(s: &mut [u8], at: usize, width: usize, v: u64)
+    requires { ⌜ at + width ≤ length (now s) ⌝ }
+    ensures { λ _. ⌜ now (s .exit) ≡ sets (now (s .entry)) at (big width v) ⌝ }
+{
+    let mut rest = v;
+    let mut i = width;
+    while 0 < i {
+        i -= 1;
+        s[at + i] = (rest % 256) as u8;
+        rest = rest / 256;
+    }
+}
+
+fn put(s: &mut [u8], at: usize, b: u8)
+    requires { ⌜ at < length (now s) ⌝ }
+    ensures { λ _. ⌜ now (s .exit) ≡ set (now (s .entry)) at b ⌝ }
+{
+    s[at] = b;
+}
+
+fn span_at(s: &[u8], at: usize) -> Span
+    requires { ⌜ at + 8 ≤ length (now s) ⌝ }
+    ensures { λ r. ⌜ r ≡ spanAt (now (s .entry)) at ⌝ }
+{
+    let start = number(s, at, 4);
+    let end = number(s, at + 4, 4);
+    Span {
+        start: start as u32,
+        end: end as u32,
+    }
+}
+
+fn store_span(s: &mut [u8], at: usize, sp: Span)
+    requires { ⌜ at + 8 ≤ length (now s) ⌝ }
+    ensures { λ _. ⌜ (now (s .exit) ≡ sets (now (s .entry)) at (spanBytes sp)) × SpanFits sp ⌝ }
+{
+    store(s, at, 4, sp.start as u64);
+    store(s, at + 4, 4, sp.end as u64);
+}
+
+fn type_of(n: u8) -> ClassicalType
+    ensures { λ r. ⌜ r ≡ typeOf n ⌝ }
+{
+    match n {
+        1 => ClassicalType::UInt,
+        2 => ClassicalType::Float,
+        3 => ClassicalType::Angle,
+        4 => ClassicalType::Bool,
+        _ => ClassicalType::Int,
+    }
+}
+
+fn type_number(ty: ClassicalType) -> u8
+    ensures { λ r. ⌜ (r ≡ numberOf ty) × (r < 5) ⌝ }
+{
+    match ty {
+        ClassicalType::Int => 0,
+        ClassicalType::UInt => 1,
+        ClassicalType::Float => 2,
+        ClassicalType::Angle => 3,
+        ClassicalType::Bool => 4,
+    }
+}
+
+// The kind with a code. No code above 14 is ever stored.
+fn kind_of(code: u8) -> SymbolKind
+    requires { ⌜ 0 < code ⌝ }
+    ensures { λ r. ⌜ kindOf r ≡ getD kinds (code - 1) Qubit ⌝ }
+{
+    if code == 2 {
+        return SymbolKind::Bit;
+    }
+    if code == 13 {
+        return SymbolKind::GateParam;
+    }
+    if code == 14 {
+        return SymbolKind::GateQubit;
+    }
+    if code < 3 {
+        return SymbolKind::Qubit;
+    }
+    if code < 8 {
+        return SymbolKind::Classical(type_of(code - 3));
+    }
+    if code < 13 {
+        return SymbolKind::Const(type_of(code - 8));
+    }
+    SymbolKind::Qubit
+}
+
+fn kind_code(kind: SymbolKind) -> u8
+    ensures { λ r. ⌜ r ≡ codeOf (kindOf kind) ⌝ }
+{
+    match kind {
+        SymbolKind::Qubit => 1,
+        SymbolKind::Bit => 2,
+        SymbolKind::Classical(ty) => 3 + type_number(ty),
+        SymbolKind::Const(ty) => 8 + type_number(ty),
+        SymbolKind::GateParam => 13,
+        SymbolKind::GateQubit => 14,
+    }
+}
+
+fn size_at(s: &[u8], at: usize) -> Number
+    requires { ⌜ at + 9 ≤ length (now s) ⌝ }
+    ensures { λ r. ⌜ sizeOf r ≡ sizeBy (getD (now (s .entry)) at 0) (numberAt 8 (now (s .entry)) (at + 1)) ⌝ }
+{
+    if s[at] == 0 {
+        return Number::None;
+    }
+    Number::Some(number(s, at + 1, 8))
+}
+
+fn store_size(s: &mut [u8], at: usize, size: Number)
+    requires { ⌜ at + 9 ≤ length (now s) ⌝ }
+    ensures { λ _. ⌜ (now (s .exit) ≡ sets (now (s .entry)) at (sizeBytes (sizeOf size))) × OptionFits (NumberFits 8) (sizeOf size) ⌝ }
+{
+    match size {
+        Number::Some(n) => {
+            put(s, at, 1);
+            store(s, at + 1, 8, n);
+        }
+        Number::None => {
+            put(s, at, 0);
+            store(s, at + 1, 8, 0);
+        }
+    }
+}
+
+fn symbol_at(s: &[u8], at: usize) -> FoundSymbol
+    requires { ⌜ at + 18 ≤ length (now s) ⌝ }
+    ensures { λ r. ⌜ foundOf r ≡ symbolAt (now (s .entry)) at ⌝ }
+{
+    let code = s[at];
+    if code == 0 {
+        return FoundSymbol::None;
+    }
+    let kind = kind_of(code);
+    let size = size_at(s, at + 1);
+    let decl_span = span_at(s, at + 10);
+    FoundSymbol::Some(Symbol {
+        kind,
+        size,
+        decl_span,
+    })
+}
+
+fn store_symbol(s: &mut [u8], at: usize, sym: Symbol)
+    requires { ⌜ at + 18 ≤ length (now s) ⌝ }
+    ensures { λ _. ⌜ (now (s .exit) ≡ sets (now (s .entry)) at (symbolBytes (symbolOf sym))) × SymbolFits (symbolOf sym) ⌝ }
+{
+    let kind = sym.kind;
+    let size = sym.size;
+    let decl_span = sym.decl_span;
+    put(s, at, kind_code(kind));
+    store_size(s, at + 1, size);
+    store_span(s, at + 10, decl_span);
+}
+
+// The symbol of a name in the innermost scope that has one.
+pub fn get(scratch: &[u8], depth: usize, x: usize) -> FoundSymbol
+    requires { ⌜ (65536 ≤ length (now scratch)) × (depth ≤ 9) × (x < 256) ⌝ }
+    ensures { λ r. ⌜ foundOf r ≡ get (scopesOf (now (scratch .entry)) depth) x ⌝ }
+{
+    let mut left = depth;
+    while 0 < left {
+        left -= 1;
+        let found = symbol_at(scratch, left * LEVEL + x * SYMBOL);
+        if let FoundSymbol::Some(sym) = found {
+            return FoundSymbol::Some(sym);
+        }
+    }
+    FoundSymbol::None
+}
+
+pub fn get_current(scratch: &[u8], depth: usize, x: usize) -> FoundSymbol
+    requires { ⌜ (65536 ≤ length (now scratch)) × (0 < depth) × (depth ≤ 9) × (x < 256) ⌝ }
+    ensures { λ r. ⌜ foundOf r ≡ getCurrent (scopesOf (now (scratch .entry)) depth) x ⌝ }
+{
+    symbol_at(scratch, (depth - 1) * LEVEL + x * SYMBOL)
+}
+
+// Gives a name a symbol in the innermost scope.
+pub fn insert(scratch: &mut [u8], depth: usize, x: usize, sym: Symbol)
+    requires { ⌜ (65536 ≤ length (now scratch)) × (0 < depth) × (depth ≤ 9) × (x < 256) ⌝ }
+    ensures { λ _. ⌜ Becomes (now (scratch .entry)) (now (scratch .exit)) depth (insertCurrent (scopesOf (now (scratch .entry)) depth) x (symbolOf sym)) (gatesOf (now (scratch .entry))) (functionsOf (now (scratch .entry))) ⌝ }
+{
+    store_symbol(scratch, (depth - 1) * LEVEL + x * SYMBOL, sym);
+}
+
+// An empty scope within the others. It is left by counting one less.
+pub fn enter(scratch: &mut [u8], depth: usize)
+    requires { ⌜ (65536 ≤ length (now scratch)) × (depth < 9) ⌝ }
+    ensures { λ _. ⌜ Becomes (now (scratch .entry)) (now (scratch .exit)) (suc depth) (empty ∷ scopesOf (now (scratch .entry)) depth) (gatesOf (now (scratch .entry))) (functionsOf (now (scratch .entry))) ⌝ }
+{
+    let mut at = depth * LEVEL;
+    let mut left: usize = 256;
+    while 0 < left {
+        scratch[at] = 0;
+        at += SYMBOL;
+        left -= 1;
+    }
+}
+
+pub fn gate(scratch: &[u8], x: usize) -> FoundGate
+    requires { ⌜ (65536 ≤ length (now scratch)) × (x < 256) ⌝ }
+    ensures { λ r. ⌜ foundGateOf r ≡ gatesOf (now (scratch .entry)) x ⌝ }
+{
+    let at = GATES + x * GATE;
+    if scratch[at] == 0 {
+        return FoundGate::None;
+    }
+    let params = wide(scratch[at + 1]);
+    let qubits = wide(scratch[at + 2]);
+    let decl_span = span_at(scratch, at + 3);
+    FoundGate::Some(GateSig {
+        param_count: params as usize,
+        qubit_count: qubits as usize,
+        decl_span,
+    })
+}
+
+fn store_gate(s: &mut [u8], at: usize, sig: GateSig)
+    requires { ⌜ (at + 11 ≤ length (now s)) × (sig .«param_count» < 256) × (sig .«qubit_count» < 256) ⌝ }
+    ensures { λ _. ⌜ (now (s .exit) ≡ sets (now (s .entry)) at (gateBytes (gateOf sig))) × SpanFits (sig .«decl_span») ⌝ }
+{
+    let decl_span = sig.decl_span;
+    put(s, at, 1);
+    put(s, at + 1, sig.param_count as u8);
+    put(s, at + 2, sig.qubit_count as u8);
+    store_span(s, at + 3, decl_span);
+}
+
+pub fn define_gate(scratch: &mut [u8], x: usize, sig: GateSig)
+    requires { ⌜ (65536 ≤ length (now scratch)) × (x < 256) × (sig .«param_count» < 256) × (sig .«qubit_count» < 256) ⌝ }
+    ensures { λ _. ⌜ KeepsScopes (now (scratch .entry)) (now (scratch .exit)) (insert (gatesOf (now (scratch .entry))) x (gateOf sig)) (functionsOf (now (scratch .entry))) ⌝ }
+{
+    store_gate(scratch, GATES + x * GATE, sig);
+}
+
+pub fn function(scratch: &[u8], x: usize) -> FoundFunction
+    requires { ⌜ (65536 ≤ length (now scratch)) × (x < 256) ⌝ }
+    ensures { λ r. ⌜ r ≡ briefOf (functionsOf (now (scratch .entry)) x) ⌝ }
+{
+    let at = FUNCTIONS + x * FUNCTION;
+    if scratch[at] == 0 {
+        return FoundFunction::None;
+    }
+    let return_type = type_of(scratch[at + 1]);
+    let count = wide(scratch[at + 2]);
+    let decl_span = span_at(scratch, at + 3);
+    FoundFunction::Some(FunctionSig {
+        param_count: count as usize,
+        return_type,
+        decl_span,
+    })
+}
+
+// The type of a function's parameter.
+pub fn param_type(scratch: &[u8], x: usize, i: usize) -> ClassicalType
+    requires { ⌜ (65536 ≤ length (now scratch)) × (x < 256) × (i < length (paramsOf (functionsOf (now scratch) x))) ⌝ }
+    ensures { λ r. ⌜ r ≡ getD (paramsOf (functionsOf (now (scratch .entry)) x)) i ClassicalType.Int ⌝ }
+{
+    type_of(scratch[FUNCTIONS + x * FUNCTION + 11 + i])
+}
+
+// Copies the type bytes of so many parameters from the tree.
+fn store_types(s: &mut [u8], to: usize, tree: &[u8], at: usize, count: usize)
+    requires { ⌜ (to + count ≤ length (now s)) × (at + 3 * count ≤ length (now tree)) ⌝ }
+    ensures { λ _. ⌜ now (s .exit) ≡ sets (now (s .entry)) to (typeBytes (now (tree .entry)) at count) ⌝ }
+{
+    let mut i = 0;
+    while i < count {
+        s[to + i] = tree[at + 3 * i];
+        i += 1;
+    }
+}
+
+fn store_function(s: &mut [u8], at: usize, ty: ClassicalType, sp: Span, count: usize)
+    requires { ⌜ (at + 11 ≤ length (now s)) × (count < 256) ⌝ }
+    ensures { λ _. ⌜ (now (s .exit) ≡ sets (now (s .entry)) at (functionBytes ty sp count [])) × SpanFits sp ⌝ }
+{
+    put(s, at, 1);
+    put(s, at + 1, type_number(ty));
+    put(s, at + 2, count as u8);
+    store_span(s, at + 3, sp);
+}
+
+// Its parameters stand in the tree from `at` on: a type byte and a text number of two bytes each.
+pub fn define_function(
+    scratch: &mut [u8],
+    tree: &[u8],
+    x: usize,
+    at: usize,
+    count: usize,
+    return_type: ClassicalType,
+    decl_span: Span,
+)
+    requires { ⌜ (65536 ≤ length (now scratch)) × (x < 256) × (count ≤ 16) × (at + 3 * count ≤ length (now tree)) × FewParams (functionsOf (now scratch)) ⌝ }
+    ensures { λ _. ⌜ KeepsScopes (now (scratch .entry)) (now (scratch .exit)) (gatesOf (now (scratch .entry))) (insert (functionsOf (now (scratch .entry))) x (functionIn (now (tree .entry)) at count «return_type» «decl_span»)) ⌝ }
+{
+    let entry = FUNCTIONS + x * FUNCTION;
+    store_function(scratch, entry, return_type, decl_span, count);
+    store_types(scratch, entry + 11, tree, at, count);
+}
+
+pub fn clear(scratch: &mut [u8])
+    requires { ⌜ 65536 ≤ length (now scratch) ⌝ }
+    ensures { λ _. ⌜ now (scratch .exit) ≡ cleared (now (scratch .entry)) ⌝ }
+{
+    let mut i = 0;
+    while i < 65536 {
+        scratch[i] = 0;
+        i += 1;
+    }
+}
