@@ -1,0 +1,9 @@
+pub mod Runs
+pub mod Values
+pub mod Spelled
+pub mod Section
+pub mod Named
+pub mod Gathered
+pub mod Fields
+pub mod Cases
+pub mod File

@@ -1,0 +1,20 @@
+-- `reader::exprs::read_index` meets its contract. Assumes nothing.
+use Rattle.reader.proofs.Runs.{runs-laws}
+use Rattle.reader.proofs.Fields.{fields}
+use borrow.Author.Needs.{needs}
+use Rattle.reader.proofs.exprs.read_index.Statement.{statement}
+use Rattle.reader.proofs.exprs.read_index.Tie as tie
+
+pub read-index-spec : {M : Type 1} → statement M
+read-index-spec =
+    tie.close (tie.spec
+    (λ c κs. search needs)  -- read-name-requires
+    (λ c. search needs)  -- enum-known-a
+    (λ c. search needs)  -- enum-told
+    (λ c. search (fields, runs-laws))  -- returns
+    (λ c κs. search needs)  -- read-u64-requires
+    (λ c. search needs)  -- enum-known-b
+    (λ c. search needs)  -- enum-told-2
+    (λ c. search (fields, runs-laws))  -- returns-2
+    (λ c κs. search needs)  -- read-span-requires
+    (λ c. search (fields, runs-laws)))  -- returns-3

@@ -1,0 +1,17 @@
+-- `reader::numbers::read_optional_u64` meets its contract. Assumes nothing.
+use Rattle.reader.proofs.Values.{options, there}
+use borrow.Author.Needs.{needs}
+use Rattle.reader.proofs.numbers.read_optional_u64.Statement.{statement}
+use Rattle.reader.proofs.numbers.read_optional_u64.Tie as tie
+
+pub read-optional-u64-spec : {M : Type 1} → statement M
+read-optional-u64-spec =
+    tie.close (tie.spec
+    (λ c κs. search needs)  -- read-case-requires
+    (λ c. search needs)  -- enum-known-a
+    (λ c. search needs)  -- enum-told
+    (λ c. search options)  -- returns
+    (λ c. search there)  -- shared-slice-read-if1
+    (λ c. search options)  -- returns-2
+    (λ c κs. search needs)  -- read-u64-requires
+    (λ c. search options))  -- returns-3

@@ -1,0 +1,17 @@
+-- `reader::parts::read_optional_operand` meets its contract. Assumes nothing.
+use Rattle.reader.proofs.Values.{options, there}
+use borrow.Author.Needs.{needs}
+use Rattle.reader.proofs.parts.read_optional_operand.Statement.{statement}
+use Rattle.reader.proofs.parts.read_optional_operand.Tie as tie
+
+pub read-optional-operand-spec : {M : Type 1} → statement M
+read-optional-operand-spec =
+    tie.close (tie.spec
+    (λ c κs. search needs)  -- read-case-requires
+    (λ c. search needs)  -- enum-known-a
+    (λ c. search needs)  -- enum-told
+    (λ c. search options)  -- returns
+    (λ c. search there)  -- shared-slice-read-if1
+    (λ c. search options)  -- returns-2
+    (λ c κs. search needs)  -- read-operand-requires
+    (λ c. search options))  -- returns-3

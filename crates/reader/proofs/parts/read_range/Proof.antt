@@ -1,0 +1,20 @@
+-- `reader::parts::read_range` meets its contract. Assumes nothing.
+use Rattle.reader.proofs.Runs.{runs-laws}
+use Rattle.reader.proofs.Fields.{fields}
+use borrow.Author.Needs.{needs}
+use Rattle.reader.proofs.parts.read_range.Statement.{statement}
+use Rattle.reader.proofs.parts.read_range.Tie as tie
+
+pub read-range-spec : {M : Type 1} → statement M
+read-range-spec =
+    tie.close (tie.spec
+    (λ c κs. search needs)  -- read-held-requires
+    (λ c. search needs)  -- enum-known-a
+    (λ c. search needs)  -- enum-told
+    (λ c. search (fields, runs-laws))  -- returns
+    (λ c κs. search needs)  -- read-held-requires-2
+    (λ c. search needs)  -- enum-known-b
+    (λ c. search needs)  -- enum-told-2
+    (λ c. search (fields, runs-laws))  -- returns-2
+    (λ c κs. search needs)  -- read-optional-held-requires
+    (λ c. search (fields, runs-laws)))  -- returns-3

@@ -1,0 +1,25 @@
+-- `reader::stmts::read_assignment` meets its contract. Assumes nothing.
+use Rattle.reader.proofs.Runs.{runs-laws}
+use Rattle.reader.proofs.Fields.{stmt-fields}
+use borrow.Author.Needs.{needs}
+use Rattle.reader.proofs.stmts.read_assignment.Statement.{statement}
+use Rattle.reader.proofs.stmts.read_assignment.Tie as tie
+
+pub read-assignment-spec : {M : Type 1} → statement M
+read-assignment-spec =
+    tie.close (tie.spec
+    (λ c. search needs)  -- add-read-name
+    (λ c κs. search needs)  -- read-name-requires
+    (λ c. search needs)  -- enum-known-a
+    (λ c. search needs)  -- enum-told
+    (λ c. search (stmt-fields, runs-laws))  -- returns
+    (λ c κs. search needs)  -- read-case-requires
+    (λ c. search needs)  -- enum-known-b
+    (λ c. search needs)  -- enum-told-2
+    (λ c. search (stmt-fields, runs-laws))  -- returns-2
+    (λ c κs. search needs)  -- read-held-requires
+    (λ c. search needs)  -- enum-known-c
+    (λ c. search needs)  -- enum-told-3
+    (λ c. search (stmt-fields, runs-laws))  -- returns-3
+    (λ c κs. search needs)  -- read-span-requires
+    (λ c. search (stmt-fields, runs-laws)))  -- returns-4

@@ -1,0 +1,21 @@
+-- `reader::stmts::read_bit_decl` meets its contract. Assumes nothing.
+use Rattle.reader.proofs.Runs.{runs-laws}
+use Rattle.reader.proofs.Fields.{stmt-fields}
+use borrow.Author.Needs.{needs}
+use Rattle.reader.proofs.stmts.read_bit_decl.Statement.{statement}
+use Rattle.reader.proofs.stmts.read_bit_decl.Tie as tie
+
+pub read-bit-decl-spec : {M : Type 1} → statement M
+read-bit-decl-spec =
+    tie.close (tie.spec
+    (λ c. search needs)  -- add-read-name
+    (λ c κs. search needs)  -- read-name-requires
+    (λ c. search needs)  -- enum-known-a
+    (λ c. search needs)  -- enum-told
+    (λ c. search (stmt-fields, runs-laws))  -- returns
+    (λ c κs. search needs)  -- read-optional-u64-requires
+    (λ c. search needs)  -- enum-known-b
+    (λ c. search needs)  -- enum-told-2
+    (λ c. search (stmt-fields, runs-laws))  -- returns-2
+    (λ c κs. search needs)  -- read-span-requires
+    (λ c. search (stmt-fields, runs-laws)))  -- returns-3

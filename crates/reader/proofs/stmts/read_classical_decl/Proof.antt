@@ -1,0 +1,29 @@
+-- `reader::stmts::read_classical_decl` meets its contract. Assumes nothing.
+use Rattle.reader.proofs.Runs.{runs-laws}
+use Rattle.reader.proofs.Fields.{stmt-fields}
+use borrow.Author.Needs.{needs}
+use Rattle.reader.proofs.stmts.read_classical_decl.Statement.{statement}
+use Rattle.reader.proofs.stmts.read_classical_decl.Tie as tie
+
+pub read-classical-decl-spec : {M : Type 1} → statement M
+read-classical-decl-spec =
+    tie.close (tie.spec
+    (λ c. search needs)  -- add-read-optional-qualifier
+    (λ c κs. search needs)  -- read-optional-qualifier-requires
+    (λ c. search needs)  -- enum-known-a
+    (λ c. search needs)  -- enum-told
+    (λ c. search (stmt-fields, runs-laws))  -- returns
+    (λ c κs. search needs)  -- read-type-requires
+    (λ c. search needs)  -- enum-known-b
+    (λ c. search needs)  -- enum-told-2
+    (λ c. search (stmt-fields, runs-laws))  -- returns-2
+    (λ c κs. search needs)  -- read-name-requires
+    (λ c. search needs)  -- enum-known-c
+    (λ c. search needs)  -- enum-told-3
+    (λ c. search (stmt-fields, runs-laws))  -- returns-3
+    (λ c κs. search needs)  -- read-optional-held-requires
+    (λ c. search needs)  -- enum-known-d
+    (λ c. search needs)  -- enum-told-4
+    (λ c. search (stmt-fields, runs-laws))  -- returns-4
+    (λ c κs. search needs)  -- read-span-requires
+    (λ c. search (stmt-fields, runs-laws) depth 6))  -- returns-5

@@ -1,0 +1,17 @@
+-- `reader::stmts::read_include` meets its contract. Assumes nothing.
+use Rattle.reader.proofs.Runs.{runs-laws}
+use Rattle.reader.proofs.Fields.{stmt-fields}
+use borrow.Author.Needs.{needs}
+use Rattle.reader.proofs.stmts.read_include.Statement.{statement}
+use Rattle.reader.proofs.stmts.read_include.Tie as tie
+
+pub read-include-spec : {M : Type 1} → statement M
+read-include-spec =
+    tie.close (tie.spec
+    (λ c. search needs)  -- add-read-path
+    (λ c κs. search needs)  -- read-path-requires
+    (λ c. search needs)  -- enum-known-a
+    (λ c. search needs)  -- enum-told
+    (λ c. search (stmt-fields, runs-laws))  -- returns
+    (λ c κs. search needs)  -- read-span-requires
+    (λ c. search (stmt-fields, runs-laws)))  -- returns-2

@@ -1,0 +1,33 @@
+-- `tree_cases::run_case` meets its contract. Assumes nothing.
+use mathlib.Core.Path.{sym}
+use lib.Seq.{length-take-le}
+use borrow.Author.Needs.{needs}
+use Rattle.tree_cases.proofs.run_case.Statement.{statement}
+use Rattle.tree_cases.proofs.run_case.Tie as tie
+
+pub run-case-spec : {M : Type 1} → statement M
+run-case-spec =
+    tie.close (tie.spec
+    (λ c. search needs)  -- slice-aggregate-read-full
+    (λ c κs. search needs)  -- read-full-requires
+    (λ c. search needs)  -- returns
+    (λ c. search needs)  -- array-read-wide
+    (λ c κs. search needs)  -- wide-requires
+    (λ c. search needs)  -- mul-high
+    (λ c. search needs)  -- array-read-wide-2
+    (λ c κs. search needs)  -- wide-requires-2
+    (λ c. search needs)  -- add-high
+    (λ c. search needs)  -- mul-n
+    (λ c. search needs)  -- array-read-wide-3
+    (λ c κs. search needs)  -- wide-requires-3
+    (λ c. search needs)  -- mul-n-2
+    (λ c. search needs)  -- add-n
+    (λ c. search needs)  -- array-read-wide-4
+    (λ c κs. search needs)  -- wide-requires-4
+    (λ c. search needs)  -- add-n-2
+    (λ c. search needs)  -- returns-2
+    (λ c. search needs)  -- slice-relend-prefix-run-tree
+    (λ c. sym (length-take-le _ _ (search needs)))  -- slice-aggregate-run-tree
+    (λ c κs. search needs)  -- run-tree-requires
+    (λ c. search needs)  -- same-length
+    (λ c. search needs))  -- returns-3
