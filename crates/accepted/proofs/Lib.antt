@@ -1,4 +1,5 @@
 pub mod Halves
+pub mod Unlike
 pub mod SkipExprs
 pub mod ReadOperands
 pub mod SkipParts

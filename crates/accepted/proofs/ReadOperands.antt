@@ -1,13 +1,12 @@
 -- Operands as the code reads them: from what each part gave. Assumes nothing.
-use Prim.Native.Nat.{ℕ, _+_, _≤_, _<_}
-use mathlib.Core.Path.{_≡_, refl, sym, _∙_, ap}
+use Prim.Native.Nat.{ℕ, _+_}
+use mathlib.Core.Path.{_≡_, refl}
 use mathlib.Core.List.{List}
-use mathlib.Core.Option.{Option, none, some}
-use native.Mathlib.Omega.{arith}
-use lib.ListN.{length, getD}
+use mathlib.Core.Option.{Option, some}
+use lib.ListN.{getD}
 use Rattle.span.specs.declared.Span.{Span}
 use Rattle.ast.specs.Tree.{Text}
-use Rattle.tree.specs.Ans.{ok, IsOk, nextOf}
+use Rattle.tree.specs.Ans.{ok, IsOk}
 use Rattle.tree.specs.Read.{u64, option}
 use Rattle.tree.specs.Texts.{isName}
 use Rattle.tree.specs.Stmts.{slice, operand}

@@ -1,6 +1,6 @@
 -- Where the parts of statements end, in the steps of the code. Assumes nothing.
 use Prim.Native.Nat.{ℕ, zero, suc, _+_, _*_, _≤_, _<_}
-use mathlib.Core.Path.{_≡_, refl, sym, ap, _∙_}
+use mathlib.Core.Path.{_≡_, refl, sym}
 use mathlib.Core.List.{List}
 use mathlib.Core.Logic.{_⊎_, inl, inr, ⊎-elim}
 use native.Mathlib.Omega.{arith}
@@ -11,18 +11,16 @@ use Rattle.tree.specs.Read.{u64, option, counted}
 use Rattle.tree.specs.Stmts.{slice, operand, held, modifier, forRange}
 use Rattle.accepted.specs.Parts.{next-is}
 use Rattle.accepted.specs.Fields.{option-in}
-use Rattle.accepted.specs.Ends.{Moves, option-moves}
+use Rattle.accepted.specs.Ends.{Moves, option-inside}
 use Rattle.accepted.specs.Sizes.{Sized, optionEnd, option-end, vec-end}
 use Rattle.accepted.specs.Operands as of
 
 module _ {A : Type 0} (p : Reader A) (size : ℕ) (z : Sized p size) (s : List ℕ) (at : ℕ) where
   pub option-room : Moves p → IsOk (option p s at) → (at < length s) × (optionEnd s at size ≤ length s)
   option-room m h =
-      let i = option-in s at p h in
-      let l : at ≤ length s = omega arith in
       let e = option-end s at p size z h in
-      let f = option-moves m .moves s at l h in
-      (i, omega arith)
+      let f = option-inside p m s at h in
+      (option-in s at p h, omega arith)
 
   pub vec-next : {B : Type 0} (nil : B) (cons : A → B → B) → IsOk (counted nil cons p s at) → (n : ℕ) → n ≡ getD s at 0 → at + 1 + n * size ≡ nextOf (counted nil cons p s at)
   vec-next nil cons h n e = rw e (vec-end nil cons p size z s at h)

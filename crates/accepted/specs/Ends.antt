@@ -1,8 +1,8 @@
 -- An accepted value ends no earlier than it starts, and within the bytes. Assumes nothing.
-use Prim.Native.Nat.{ℕ, zero, suc, _+_, _-_, _≤_, _<_}
-use mathlib.Core.Path.{_≡_, refl, ap, subst}
+use Prim.Native.Nat.{ℕ, zero, suc, _+_, _≤_}
+use mathlib.Core.Path.{_≡_}
 use mathlib.Core.List.{List, [], _∷_}
-use mathlib.Core.Option.{Option, none, some}
+use mathlib.Core.Option.{none, some}
 use mathlib.Core.Bool.{Bool}
 use native.Mathlib.Omega.{arith}
 use lib.ListN.{length, getD}
@@ -10,8 +10,8 @@ use Rattle.ast.specs.Tree.{Text}
 use Rattle.tree.specs.Ans.{Ans, ok, refused, Reader, bind, _>>=_, done, here, refuse, IsOk, nextOf}
 use Rattle.tree.specs.Read.{number, span, caseByte, oneOf, optionCase, option, repeat, count, counted}
 use Rattle.tree.specs.Exprs.{textNumber}
-use Rattle.accepted.specs.Parts.{next-is, Goes, start, stops}
-use Rattle.accepted.specs.Fields.{number-in, number-is, span-in, span-is, case-in, case-is, one-in, one-is, count-in, count-is, text-in, text-is}
+use Rattle.accepted.specs.Parts.{next-is, start, stops}
+use Rattle.accepted.specs.Fields.{number-in, number-is, span-in, span-is, case-in, case-is, one-in, one-is, count-in, count-is, text-in, text-is, option-in, counted-in}
 
 pub record Moves {A : Type 0} (r : Reader A) : Type 0 where
   pub moves : (s : List ℕ) (at : ℕ) → at ≤ length s → IsOk (r s at) → (at ≤ nextOf (r s at)) × (nextOf (r s at) ≤ length s)
@@ -86,6 +86,14 @@ repeat-moves nil cons m (suc n) = seq-moves _ m (λ a. last-moves (cons a) (repe
 pub counted-moves : {A B : Type 0} (nil : B) (cons : A → B → B) {p : Reader A} → Moves p → Moves (counted nil cons p)
 unfolding counted
 counted-moves nil cons m = seq-moves _ count-moves (repeat-moves nil cons m)
+
+-- an Option and a Vec end within the bytes
+module _ {A : Type 0} (p : Reader A) (m : Moves p) (s : List ℕ) (at : ℕ) where
+  pub option-inside : IsOk (option p s at) → nextOf (option p s at) ≤ length s
+  option-inside h = let i = option-in s at p h in let l : at ≤ length s = omega arith in option-moves m .moves s at l h .1
+
+  pub counted-inside : {B : Type 0} (nil : B) (cons : A → B → B) → IsOk (counted nil cons p s at) → nextOf (counted nil cons p s at) ≤ length s
+  counted-inside nil cons h = let i = counted-in s at nil cons p h in let l : at ≤ length s = omega arith in counted-moves nil cons m .moves s at l h .1
 
 -- one of several cases
 pub data Each {A : Type 0} : List (Reader A) → Type 0 where

@@ -13,8 +13,8 @@ use Rattle.tree.specs.Texts.{isName, isFloat}
 use Rattle.tree.specs.Exprs.{constKind, binOp, compareOp, exprs, intLit, floatLit, boolLit, ident, index, call, const, neg, binary, compare, exprCases, expr}
 use Rattle.context.specs.View.{numberAt, spanAt}
 use Rattle.accepted.specs.Cases.{boolOf, constKindOf, binOpOf, compareOpOf, blank}
-use Rattle.accepted.specs.Parts.{valueOr, Goes, start, field, known, past, ends, stops}
-use Rattle.accepted.specs.Fields.{number-is, span-in, span-in-at, span-is, one-below, one-is, choice-in, choice-below, choice, text-in, text-in-at, text-below, text-is, repeat-first, repeat-rest, repeat-is}
+use Rattle.accepted.specs.Parts.{valueOr, end-in, Goes, start, field, known, past, ends, stops}
+use Rattle.accepted.specs.Fields.{number-is, span-is, one-below, one-is, choice-in, choice-below, choice, text-in-at, text-below, text-is, repeat-first, repeat-rest, repeat-is}
 use Rattle.accepted.specs.Ends.{Moves, seq-moves, last-moves, number-moves, span-moves, one-moves, text-moves, counted-moves, none-left, and, each-moves, refuse-moves, choice-moves}
 
 module _ (s : List ℕ) (at : ℕ) where
@@ -78,10 +78,10 @@ unfolding expr
 expr-moves t zero = choice-moves 10 _ (λ place c. refuse-moves 6 place)
 expr-moves t (suc left) = choice-moves 10 _ (cases-move t (expr t left) (expr-moves t left))
 
-module _ (t : List Text) (left : ℕ) (s : List ℕ) (at : ℕ) (h : IsOk (expr t left s at)) where
-  pub expr-end : nextOf (expr t left s at) ≤ length s
-  expr-end = let i = expr-in t left s at h in let l : at ≤ length s = omega arith in expr-moves t left .moves s at l h .1
+pub expr-end : (t : List Text) (left : ℕ) (s : List ℕ) (at : ℕ) → IsOk (expr t left s at) → nextOf (expr t left s at) ≤ length s
+expr-end t left s at h = let i = expr-in t left s at h in let l : at ≤ length s = omega arith in expr-moves t left .moves s at l h .1
 
+module _ (t : List Text) (left : ℕ) (s : List ℕ) (at : ℕ) (h : IsOk (expr t left s at)) where
   pub expr-ahead : at < nextOf (expr t left s at)
   expr-ahead =
       let g = expr-goes t left s at h (getD s at 0) refl in
@@ -92,13 +92,12 @@ module _ (t : List Text) (left : ℕ) (s : List ℕ) (at : ℕ) (h : IsOk (expr 
 
   -- an integer literal
   module _ (b : getD s at 0 ≡ 0) where
-    pub intLit-inside : at + 17 ≤ length s
-    unfolding exprCases intLit
-    intLit-inside = span-in-at s (at + 9) _ (omega arith) (field _ _ (known _ _ (at + 9) (number-is s (at + 1) 8) (omega arith) (expr-goes t left s at h 0 b)))
-
     pub intLit-is : expr t left s at ≡ ok (Expr.IntLit (numberAt 8 s (at + 1)) (spanAt s (at + 9))) (at + 17)
     unfolding exprCases intLit
     intLit-is = ends _ (known _ _ (at + 17) (span-is s (at + 9)) (omega arith) (known _ _ (at + 9) (number-is s (at + 1) 8) (omega arith) (expr-goes t left s at h 0 b)))
+
+    pub intLit-inside : at + 17 ≤ length s
+    intLit-inside = end-in intLit-is (expr-end t left s at h)
 
   -- a float literal
   module _ (b : getD s at 0 ≡ 1) where
@@ -106,13 +105,12 @@ module _ (t : List Text) (left : ℕ) (s : List ℕ) (at : ℕ) (h : IsOk (expr 
     unfolding exprCases floatLit
     floatLit-text = text-below s (at + 1) t isFloat (field _ _ (expr-goes t left s at h 1 b))
 
-    pub floatLit-inside : at + 11 ≤ length s
-    unfolding exprCases floatLit
-    floatLit-inside = span-in-at s (at + 3) _ (omega arith) (field _ _ (known _ _ (at + 3) (text-is s (at + 1) t isFloat) (omega arith) (expr-goes t left s at h 1 b)))
-
     pub floatLit-is : expr t left s at ≡ ok (Expr.FloatLit (numberAt 2 s (at + 1)) (spanAt s (at + 3))) (at + 11)
     unfolding exprCases floatLit
     floatLit-is = ends _ (known _ _ (at + 11) (span-is s (at + 3)) (omega arith) (known _ _ (at + 3) (text-is s (at + 1) t isFloat) (omega arith) (expr-goes t left s at h 1 b)))
+
+    pub floatLit-inside : at + 11 ≤ length s
+    floatLit-inside = end-in floatLit-is (expr-end t left s at h)
 
   -- a bool literal
   module _ (b : getD s at 0 ≡ 2) where
@@ -120,13 +118,12 @@ module _ (t : List Text) (left : ℕ) (s : List ℕ) (at : ℕ) (h : IsOk (expr 
     unfolding exprCases boolLit bool
     boolLit-value = one-below s (at + 1) _ _ (field _ _ (expr-goes t left s at h 2 b))
 
-    pub boolLit-inside : at + 10 ≤ length s
-    unfolding exprCases boolLit
-    boolLit-inside = span-in-at s (at + 2) _ (omega arith) (field _ _ (known _ _ (at + 2) (bool-is s (at + 1)) (omega arith) (expr-goes t left s at h 2 b)))
-
     pub boolLit-is : expr t left s at ≡ ok (Expr.BoolLit (boolOf (getD s (at + 1) 0)) (spanAt s (at + 2))) (at + 10)
     unfolding exprCases boolLit
     boolLit-is = ends _ (known _ _ (at + 10) (span-is s (at + 2)) (omega arith) (known _ _ (at + 2) (bool-is s (at + 1)) (omega arith) (expr-goes t left s at h 2 b)))
+
+    pub boolLit-inside : at + 10 ≤ length s
+    boolLit-inside = end-in boolLit-is (expr-end t left s at h)
 
   -- a name
   module _ (b : getD s at 0 ≡ 3) where
@@ -134,13 +131,12 @@ module _ (t : List Text) (left : ℕ) (s : List ℕ) (at : ℕ) (h : IsOk (expr 
     unfolding exprCases ident
     ident-name = text-below s (at + 1) t isName (field _ _ (expr-goes t left s at h 3 b))
 
-    pub ident-inside : at + 11 ≤ length s
-    unfolding exprCases ident
-    ident-inside = span-in-at s (at + 3) _ (omega arith) (field _ _ (known _ _ (at + 3) (text-is s (at + 1) t isName) (omega arith) (expr-goes t left s at h 3 b)))
-
     pub ident-is : expr t left s at ≡ ok (Expr.Ident (numberAt 2 s (at + 1)) (spanAt s (at + 3))) (at + 11)
     unfolding exprCases ident
     ident-is = ends _ (known _ _ (at + 11) (span-is s (at + 3)) (omega arith) (known _ _ (at + 3) (text-is s (at + 1) t isName) (omega arith) (expr-goes t left s at h 3 b)))
+
+    pub ident-inside : at + 11 ≤ length s
+    ident-inside = end-in ident-is (expr-end t left s at h)
 
   -- a name with an index
   module _ (b : getD s at 0 ≡ 4) where
@@ -148,13 +144,12 @@ module _ (t : List Text) (left : ℕ) (s : List ℕ) (at : ℕ) (h : IsOk (expr 
     unfolding exprCases index
     index-name = text-below s (at + 1) t isName (field _ _ (expr-goes t left s at h 4 b))
 
-    pub index-inside : at + 19 ≤ length s
-    unfolding exprCases index
-    index-inside = span-in-at s (at + 11) _ (omega arith) (field _ _ (known _ _ (at + 11) (number-is s (at + 3) 8) (omega arith) (known _ _ (at + 3) (text-is s (at + 1) t isName) (omega arith) (expr-goes t left s at h 4 b))))
-
     pub index-is : expr t left s at ≡ ok (Expr.Index (numberAt 2 s (at + 1)) (numberAt 8 s (at + 3)) (spanAt s (at + 11))) (at + 19)
     unfolding exprCases index
     index-is = ends _ (known _ _ (at + 19) (span-is s (at + 11)) (omega arith) (known _ _ (at + 11) (number-is s (at + 3) 8) (omega arith) (known _ _ (at + 3) (text-is s (at + 1) t isName) (omega arith) (expr-goes t left s at h 4 b))))
+
+    pub index-inside : at + 19 ≤ length s
+    index-inside = end-in index-is (expr-end t left s at h)
 
   -- a call
   module _ (b : getD s at 0 ≡ 5) where
@@ -170,13 +165,13 @@ module _ (t : List Text) (left : ℕ) (s : List ℕ) (at : ℕ) (h : IsOk (expr 
     unfolding exprCases call
     call-args = field _ _ (known _ _ (at + 3) (text-is s (at + 1) t isName) (omega arith) (expr-goes t left s at h 5 b))
 
-    pub call-inside : (k : ℕ) → k ≡ nextOf (exprs (expr t (left - 1)) s (at + 3)) → k + 8 ≤ length s
-    unfolding exprCases call
-    call-inside k k-end = span-in s k (field _ _ (past _ _ noExpr k k-end (known _ _ (at + 3) (text-is s (at + 1) t isName) (omega arith) (expr-goes t left s at h 5 b))))
+    module _ (k : ℕ) (k-end : k ≡ nextOf (exprs (expr t (left - 1)) s (at + 3))) where
+      pub call-is : expr t left s at ≡ ok (Expr.Call (numberAt 2 s (at + 1)) (valueOr noExpr (exprs (expr t (left - 1)) s (at + 3))) (spanAt s k)) (k + 8)
+      unfolding exprCases call
+      call-is = ends _ (known _ _ (k + 8) (span-is s k) refl (past _ _ noExpr k k-end (known _ _ (at + 3) (text-is s (at + 1) t isName) (omega arith) (expr-goes t left s at h 5 b))))
 
-    pub call-is : (k : ℕ) → k ≡ nextOf (exprs (expr t (left - 1)) s (at + 3)) → expr t left s at ≡ ok (Expr.Call (numberAt 2 s (at + 1)) (valueOr noExpr (exprs (expr t (left - 1)) s (at + 3))) (spanAt s k)) (k + 8)
-    unfolding exprCases call
-    call-is k k-end = ends _ (known _ _ (k + 8) (span-is s k) (omega arith) (past _ _ noExpr k k-end (known _ _ (at + 3) (text-is s (at + 1) t isName) (omega arith) (expr-goes t left s at h 5 b))))
+      pub call-inside : k + 8 ≤ length s
+      call-inside = end-in call-is (expr-end t left s at h)
 
   -- a constant
   module _ (b : getD s at 0 ≡ 6) where
@@ -184,13 +179,12 @@ module _ (t : List Text) (left : ℕ) (s : List ℕ) (at : ℕ) (h : IsOk (expr 
     unfolding exprCases const constKind
     const-kind = one-below s (at + 1) _ _ (field _ _ (expr-goes t left s at h 6 b))
 
-    pub const-inside : at + 10 ≤ length s
-    unfolding exprCases const
-    const-inside = span-in-at s (at + 2) _ (omega arith) (field _ _ (known _ _ (at + 2) (constKind-is s (at + 1)) (omega arith) (expr-goes t left s at h 6 b)))
-
     pub const-is : expr t left s at ≡ ok (Expr.Const (constKindOf (getD s (at + 1) 0)) (spanAt s (at + 2))) (at + 10)
     unfolding exprCases const
     const-is = ends _ (known _ _ (at + 10) (span-is s (at + 2)) (omega arith) (known _ _ (at + 2) (constKind-is s (at + 1)) (omega arith) (expr-goes t left s at h 6 b)))
+
+    pub const-inside : at + 10 ≤ length s
+    const-inside = end-in const-is (expr-end t left s at h)
 
   -- a negation
   module _ (b : getD s at 0 ≡ 7) where
@@ -198,13 +192,13 @@ module _ (t : List Text) (left : ℕ) (s : List ℕ) (at : ℕ) (h : IsOk (expr 
     unfolding exprCases neg
     neg-inner = field _ _ (expr-goes t left s at h 7 b)
 
-    pub neg-inside : (k : ℕ) → k ≡ nextOf (expr t (left - 1) s (at + 1)) → k + 8 ≤ length s
-    unfolding exprCases neg
-    neg-inside k k-end = span-in s k (field _ _ (past _ _ blank k k-end (expr-goes t left s at h 7 b)))
+    module _ (k : ℕ) (k-end : k ≡ nextOf (expr t (left - 1) s (at + 1))) where
+      pub neg-is : expr t left s at ≡ ok (Expr.Neg (valueOr blank (expr t (left - 1) s (at + 1))) (spanAt s k)) (k + 8)
+      unfolding exprCases neg
+      neg-is = ends _ (known _ _ (k + 8) (span-is s k) refl (past _ _ blank k k-end (expr-goes t left s at h 7 b)))
 
-    pub neg-is : (k : ℕ) → k ≡ nextOf (expr t (left - 1) s (at + 1)) → expr t left s at ≡ ok (Expr.Neg (valueOr blank (expr t (left - 1) s (at + 1))) (spanAt s k)) (k + 8)
-    unfolding exprCases neg
-    neg-is k k-end = ends _ (known _ _ (k + 8) (span-is s k) (omega arith) (past _ _ blank k k-end (expr-goes t left s at h 7 b)))
+      pub neg-inside : k + 8 ≤ length s
+      neg-inside = end-in neg-is (expr-end t left s at h)
 
   -- an arithmetic operation
   module _ (b : getD s at 0 ≡ 8) where
@@ -216,17 +210,18 @@ module _ (t : List Text) (left : ℕ) (s : List ℕ) (at : ℕ) (h : IsOk (expr 
     unfolding exprCases binary
     binary-lhs = field _ _ (known _ _ (at + 2) (binOp-is s (at + 1)) (omega arith) (expr-goes t left s at h 8 b))
 
-    pub binary-rhs : (k : ℕ) → k ≡ nextOf (expr t (left - 1) s (at + 2)) → IsOk (expr t (left - 1) s k)
-    unfolding exprCases binary
-    binary-rhs k k-end = field _ _ (past _ _ blank k k-end (known _ _ (at + 2) (binOp-is s (at + 1)) (omega arith) (expr-goes t left s at h 8 b)))
+    module _ (k : ℕ) (k-end : k ≡ nextOf (expr t (left - 1) s (at + 2))) where
+      pub binary-rhs : IsOk (expr t (left - 1) s k)
+      unfolding exprCases binary
+      binary-rhs = field _ _ (past _ _ blank k k-end (known _ _ (at + 2) (binOp-is s (at + 1)) (omega arith) (expr-goes t left s at h 8 b)))
 
-    pub binary-inside : (k : ℕ) → k ≡ nextOf (expr t (left - 1) s (at + 2)) → (m : ℕ) → m ≡ nextOf (expr t (left - 1) s k) → m + 8 ≤ length s
-    unfolding exprCases binary
-    binary-inside k k-end m m-end = span-in s m (field _ _ (past _ _ blank m m-end (past _ _ blank k k-end (known _ _ (at + 2) (binOp-is s (at + 1)) (omega arith) (expr-goes t left s at h 8 b)))))
+      module _ (m : ℕ) (m-end : m ≡ nextOf (expr t (left - 1) s k)) where
+        pub binary-is : expr t left s at ≡ ok (Expr.BinOp (binOpOf (getD s (at + 1) 0)) (valueOr blank (expr t (left - 1) s (at + 2))) (valueOr blank (expr t (left - 1) s k)) (spanAt s m)) (m + 8)
+        unfolding exprCases binary
+        binary-is = ends _ (known _ _ (m + 8) (span-is s m) refl (past _ _ blank m m-end (past _ _ blank k k-end (known _ _ (at + 2) (binOp-is s (at + 1)) (omega arith) (expr-goes t left s at h 8 b)))))
 
-    pub binary-is : (k : ℕ) → k ≡ nextOf (expr t (left - 1) s (at + 2)) → (m : ℕ) → m ≡ nextOf (expr t (left - 1) s k) → expr t left s at ≡ ok (Expr.BinOp (binOpOf (getD s (at + 1) 0)) (valueOr blank (expr t (left - 1) s (at + 2))) (valueOr blank (expr t (left - 1) s k)) (spanAt s m)) (m + 8)
-    unfolding exprCases binary
-    binary-is k k-end m m-end = ends _ (known _ _ (m + 8) (span-is s m) (omega arith) (past _ _ blank m m-end (past _ _ blank k k-end (known _ _ (at + 2) (binOp-is s (at + 1)) (omega arith) (expr-goes t left s at h 8 b)))))
+        pub binary-inside : m + 8 ≤ length s
+        binary-inside = end-in binary-is (expr-end t left s at h)
 
   -- a comparison
   module _ (b : getD s at 0 ≡ 9) where
@@ -238,17 +233,18 @@ module _ (t : List Text) (left : ℕ) (s : List ℕ) (at : ℕ) (h : IsOk (expr 
     unfolding exprCases compare
     compare-lhs = field _ _ (known _ _ (at + 2) (compareOp-is s (at + 1)) (omega arith) (expr-goes t left s at h 9 b))
 
-    pub compare-rhs : (k : ℕ) → k ≡ nextOf (expr t (left - 1) s (at + 2)) → IsOk (expr t (left - 1) s k)
-    unfolding exprCases compare
-    compare-rhs k k-end = field _ _ (past _ _ blank k k-end (known _ _ (at + 2) (compareOp-is s (at + 1)) (omega arith) (expr-goes t left s at h 9 b)))
+    module _ (k : ℕ) (k-end : k ≡ nextOf (expr t (left - 1) s (at + 2))) where
+      pub compare-rhs : IsOk (expr t (left - 1) s k)
+      unfolding exprCases compare
+      compare-rhs = field _ _ (past _ _ blank k k-end (known _ _ (at + 2) (compareOp-is s (at + 1)) (omega arith) (expr-goes t left s at h 9 b)))
 
-    pub compare-inside : (k : ℕ) → k ≡ nextOf (expr t (left - 1) s (at + 2)) → (m : ℕ) → m ≡ nextOf (expr t (left - 1) s k) → m + 8 ≤ length s
-    unfolding exprCases compare
-    compare-inside k k-end m m-end = span-in s m (field _ _ (past _ _ blank m m-end (past _ _ blank k k-end (known _ _ (at + 2) (compareOp-is s (at + 1)) (omega arith) (expr-goes t left s at h 9 b)))))
+      module _ (m : ℕ) (m-end : m ≡ nextOf (expr t (left - 1) s k)) where
+        pub compare-is : expr t left s at ≡ ok (Expr.Compare (compareOpOf (getD s (at + 1) 0)) (valueOr blank (expr t (left - 1) s (at + 2))) (valueOr blank (expr t (left - 1) s k)) (spanAt s m)) (m + 8)
+        unfolding exprCases compare
+        compare-is = ends _ (known _ _ (m + 8) (span-is s m) refl (past _ _ blank m m-end (past _ _ blank k k-end (known _ _ (at + 2) (compareOp-is s (at + 1)) (omega arith) (expr-goes t left s at h 9 b)))))
 
-    pub compare-is : (k : ℕ) → k ≡ nextOf (expr t (left - 1) s (at + 2)) → (m : ℕ) → m ≡ nextOf (expr t (left - 1) s k) → expr t left s at ≡ ok (Expr.Compare (compareOpOf (getD s (at + 1) 0)) (valueOr blank (expr t (left - 1) s (at + 2))) (valueOr blank (expr t (left - 1) s k)) (spanAt s m)) (m + 8)
-    unfolding exprCases compare
-    compare-is k k-end m m-end = ends _ (known _ _ (m + 8) (span-is s m) (omega arith) (past _ _ blank m m-end (past _ _ blank k k-end (known _ _ (at + 2) (compareOp-is s (at + 1)) (omega arith) (expr-goes t left s at h 9 b)))))
+        pub compare-inside : m + 8 ≤ length s
+        compare-inside = end-in compare-is (expr-end t left s at h)
 
 -- the arguments of a call, and the parameters of a gate call: one expression more
 module _ (t : List Text) (left : ℕ) (s : List ℕ) (n k : ℕ) (h : IsOk (repeat noExpr moreExpr (expr t left) n s k)) (l : 0 < n) where

@@ -1,8 +1,8 @@
 -- What is known of a field that was accepted: where its bytes stand, what its value is, where it ends. Assumes nothing.
 use Prim.Native.Nat.{ℕ, zero, suc, _+_, _-_, _≤_, _<_}
-use mathlib.Core.Path.{_≡_, refl, sym, ap, _∙_, subst}
+use mathlib.Core.Path.{_≡_, refl, sym, subst}
 use mathlib.Core.List.{List, [], _∷_}
-use mathlib.Core.Option.{Option, none, some}
+use mathlib.Core.Option.{none, some}
 use mathlib.Core.Bool.{Bool, true, false}
 use native.Mathlib.Omega.{arith}
 use native.Mathlib.Numerals.{sub-one}
@@ -11,8 +11,8 @@ use lib.Dec.{ltb, leb}
 use borrow.Author.Tests.{ltb-true, leb-true, lt-ltb, le-leb}
 use Rattle.ast.specs.Tree.{Text}
 use Rattle.tree.specs.Limits.{vecLimit}
-use Rattle.tree.specs.Ans.{Ans, ok, refused, Reader, bind, _>>=_, _>>_, done, here, IsOk, nextOf}
-use Rattle.tree.specs.Read.{within, byte, bytes, number, u16, span, caseByte, oneOf, optionCase, option, repeat, count, counted}
+use Rattle.tree.specs.Ans.{Ans, ok, Reader, bind, _>>=_, done, here, IsOk, nextOf}
+use Rattle.tree.specs.Read.{within, byte, bytes, number, span, caseByte, oneOf, optionCase, option, repeat, count, counted}
 use Rattle.tree.specs.Exprs.{textNumber}
 use Rattle.context.specs.View.{numberAt, spanAt}
 use Rattle.accepted.specs.Parts.{valueOr, next-is, is-of, Goes, start, field, known, past, beyond, past-here, checked, past-check, ends}
@@ -52,10 +52,6 @@ module _ (s : List ℕ) (at : ℕ) where
 
     pub span-is : span s at ≡ ok (spanAt s at) (at + 8)
     span-is = let e : at + 4 + 4 ≡ at + 8 = omega arith in ends _ (known _ _ (at + 8) (number-is s (at + 4) 4) e span-goes)
-
-  -- with the end as the code names it
-  pub span-in-at : (end : ℕ) → at + 8 ≡ end → IsOk (span s at) → end ≤ length s
-  span-in-at end e h = let i = span-in h in omega arith
 
   module _ (cases : ℕ) (h : IsOk (caseByte cases s at)) where
     pub case-in : at < length s
@@ -124,6 +120,7 @@ module _ (s : List ℕ) (at : ℕ) where
     unfolding textNumber
     text-is = ends _ (past-check _ _ _ _ (past-check _ _ _ _ (known _ _ (at + 2) (number-is s at 2) refl (past-here _ (start h)))))
 
+  -- with the end as the code names it
   pub text-in-at : (end : ℕ) → at + 2 ≡ end → (t : List Text) (spelled : Text → Bool) → IsOk (textNumber t spelled s at) → end ≤ length s
   text-in-at end e t spelled h = let i = text-in t spelled h in omega arith
 

@@ -7,3 +7,7 @@ pub mod Numbers
 pub mod Exprs
 pub mod Operands
 pub mod Sizes
+pub mod Bodies
+pub mod Stmts
+pub mod Files
+pub mod Marked

@@ -1,5 +1,5 @@
 -- What accepted operands, modifiers, ranges and parameters say of their parts, and which values they are. Assumes nothing.
-use Prim.Native.Nat.{ℕ, zero, suc, _+_, _≤_, _<_}
+use Prim.Native.Nat.{ℕ, _+_, _≤_, _<_}
 use mathlib.Core.Path.{_≡_, refl}
 use mathlib.Core.List.{List, [], _∷_}
 use mathlib.Core.Option.{none, some}
@@ -7,15 +7,15 @@ use native.Mathlib.Omega.{arith}
 use lib.ListN.{length, getD}
 use Rattle.ast.specs.Tree.{Text, GateModifier}
 use Rattle.tree.specs.Ans.{ok, refuse, IsOk, nextOf}
-use Rattle.tree.specs.Read.{u64, span, option, vec}
+use Rattle.tree.specs.Read.{u64, span, option}
 use Rattle.tree.specs.Texts.{isName}
-use Rattle.tree.specs.Exprs.{textNumber, name, expr}
+use Rattle.tree.specs.Exprs.{name}
 use Rattle.tree.specs.Stmts.{classicalType, qualifier, slice, operand, held, ctrl, negCtrl, inv, pow, modifier, forRange, param}
 use Rattle.context.specs.View.{numberAt, spanAt, typeOf}
 use Rattle.accepted.specs.Cases.{qualifierOf, blank}
-use Rattle.accepted.specs.Parts.{valueOr, Goes, start, field, known, past, ends}
-use Rattle.accepted.specs.Fields.{number-in, number-is, span-in, span-in-at, span-is, one-in, one-below, one-is, choice-in, choice-below, choice, text-in, text-in-at, text-below, text-is, option-known, option-held}
-use Rattle.accepted.specs.Ends.{Moves, seq-moves, last-moves, number-moves, span-moves, one-moves, text-moves, option-moves, Each, none-left, and, each-moves, refuse-moves, choice-moves}
+use Rattle.accepted.specs.Parts.{valueOr, end-in, Goes, start, field, known, past, ends}
+use Rattle.accepted.specs.Fields.{number-in, number-is, span-is, one-below, one-is, choice-in, choice-below, choice, text-in, text-below, text-is, option-known, option-held}
+use Rattle.accepted.specs.Ends.{Moves, seq-moves, last-moves, number-moves, span-moves, one-moves, text-moves, option-moves, none-left, and, each-moves, refuse-moves, choice-moves}
 use Rattle.accepted.specs.Exprs.{expr-moves}
 
 module _ (s : List ℕ) (at : ℕ) where
@@ -68,6 +68,10 @@ pub operand-moves : (t : List Text) → Moves (operand t)
 unfolding operand
 operand-moves t = seq-moves _ (text-moves t isName) (λ a. seq-moves _ (option-moves (number-moves 8)) (λ b. seq-moves _ (option-moves slice-moves) (λ c. last-moves _ span-moves)))
 
+pub operand-end : (t : List Text) (s : List ℕ) (at : ℕ) → IsOk (operand t s at) → nextOf (operand t s at) ≤ length s
+unfolding operand
+operand-end t s at h = let i = text-in s at t isName (field _ _ (start h)) in let l : at ≤ length s = omega arith in operand-moves t .moves s at l h .1
+
 pub held-moves : (t : List Text) → Moves (held t)
 held-moves t = expr-moves t 32
 
@@ -103,36 +107,40 @@ module _ (t : List Text) (s : List ℕ) (at : ℕ) (h : IsOk (operand t s at)) w
 
   pub operand-index : IsOk (option u64 s (at + 2))
   unfolding operand
-  operand-index = field _ _ (known _ _ (at + 2) (text-is s at t isName) (omega arith) (start h))
+  operand-index = field _ _ (known _ _ (at + 2) (text-is s at t isName) refl (start h))
 
-  pub operand-slice : (k : ℕ) → k ≡ nextOf (option u64 s (at + 2)) → IsOk (option slice s k)
-  unfolding operand
-  operand-slice k k-end = field _ _ (past _ _ none k k-end (known _ _ (at + 2) (text-is s at t isName) (omega arith) (start h)))
+  module _ (k : ℕ) (k-end : k ≡ nextOf (option u64 s (at + 2))) where
+    pub operand-slice : IsOk (option slice s k)
+    unfolding operand
+    operand-slice = field _ _ (past _ _ none k k-end (known _ _ (at + 2) (text-is s at t isName) refl (start h)))
 
-  pub operand-inside : (k : ℕ) → k ≡ nextOf (option u64 s (at + 2)) → (m : ℕ) → m ≡ nextOf (option slice s k) → m + 8 ≤ length s
-  unfolding operand
-  operand-inside k k-end m m-end = span-in s m (field _ _ (past _ _ none m m-end (past _ _ none k k-end (known _ _ (at + 2) (text-is s at t isName) (omega arith) (start h)))))
+    module _ (m : ℕ) (m-end : m ≡ nextOf (option slice s k)) where
+      pub operand-is : operand t s at ≡ ok (record { name = (numberAt 2 s at); index = (valueOr none (option u64 s (at + 2))); slice = (valueOr none (option slice s k)); span = (spanAt s m) }) (m + 8)
+      unfolding operand
+      operand-is = ends _ (known _ _ (m + 8) (span-is s m) refl (past _ _ none m m-end (past _ _ none k k-end (known _ _ (at + 2) (text-is s at t isName) refl (start h)))))
 
-  pub operand-is : (k : ℕ) → k ≡ nextOf (option u64 s (at + 2)) → (m : ℕ) → m ≡ nextOf (option slice s k) → operand t s at ≡ ok (record { name = (numberAt 2 s at); index = (valueOr none (option u64 s (at + 2))); slice = (valueOr none (option slice s k)); span = (spanAt s m) }) (m + 8)
-  unfolding operand
-  operand-is k k-end m m-end = ends _ (known _ _ (m + 8) (span-is s m) (omega arith) (past _ _ none m m-end (past _ _ none k k-end (known _ _ (at + 2) (text-is s at t isName) (omega arith) (start h)))))
+      pub operand-inside : m + 8 ≤ length s
+      operand-inside = end-in operand-is (operand-end t s at h)
 
 module _ (t : List Text) (s : List ℕ) (at : ℕ) (h : IsOk (forRange t s at)) where
   pub forRange-start : IsOk (held t s at)
   unfolding forRange
   forRange-start = field _ _ (start h)
 
-  pub forRange-end : (k : ℕ) → k ≡ nextOf (held t s at) → IsOk (held t s k)
-  unfolding forRange
-  forRange-end k k-end = field _ _ (past _ _ blank k k-end (start h))
+  module _ (k : ℕ) (k-end : k ≡ nextOf (held t s at)) where
+    pub forRange-end : IsOk (held t s k)
+    unfolding forRange
+    forRange-end = field _ _ (past _ _ blank k k-end (start h))
 
-  pub forRange-step : (k : ℕ) → k ≡ nextOf (held t s at) → (m : ℕ) → m ≡ nextOf (held t s k) → IsOk (option (held t) s m)
-  unfolding forRange
-  forRange-step k k-end m m-end = field _ _ (past _ _ blank m m-end (past _ _ blank k k-end (start h)))
+    module _ (m : ℕ) (m-end : m ≡ nextOf (held t s k)) where
+      pub forRange-step : IsOk (option (held t) s m)
+      unfolding forRange
+      forRange-step = field _ _ (past _ _ blank m m-end (past _ _ blank k k-end (start h)))
 
-  pub forRange-is : (k : ℕ) → k ≡ nextOf (held t s at) → (m : ℕ) → m ≡ nextOf (held t s k) → (n : ℕ) → n ≡ nextOf (option (held t) s m) → forRange t s at ≡ ok (record { start = (valueOr blank (held t s at)); end = (valueOr blank (held t s k)); step = (valueOr none (option (held t) s m)) }) n
-  unfolding forRange
-  forRange-is k k-end m m-end n n-end = ends _ (past _ _ none n n-end (past _ _ blank m m-end (past _ _ blank k k-end (start h))))
+      module _ (n : ℕ) (n-end : n ≡ nextOf (option (held t) s m)) where
+        pub forRange-is : forRange t s at ≡ ok (record { start = (valueOr blank (held t s at)); end = (valueOr blank (held t s k)); step = (valueOr none (option (held t) s m)) }) n
+        unfolding forRange
+        forRange-is = ends _ (past _ _ none n n-end (past _ _ blank m m-end (past _ _ blank k k-end (start h))))
 
 module _ (t : List Text) (s : List ℕ) (at : ℕ) (h : IsOk (param t s at)) where
   pub param-type : getD s at 0 < 5
@@ -141,11 +149,11 @@ module _ (t : List Text) (s : List ℕ) (at : ℕ) (h : IsOk (param t s at)) whe
 
   pub param-name : numberAt 2 s (at + 1) < length t
   unfolding param
-  param-name = text-below s (at + 1) t isName (field _ _ (known _ _ (at + 1) (type-is s at) (omega arith) (start h)))
+  param-name = text-below s (at + 1) t isName (field _ _ (known _ _ (at + 1) (type-is s at) refl (start h)))
 
   pub param-is : param t s at ≡ ok ((typeOf (getD s at 0)), (numberAt 2 s (at + 1))) (at + 3)
   unfolding param
-  param-is = ends _ (known _ _ (at + 3) (text-is s (at + 1) t isName) (omega arith) (known _ _ (at + 1) (type-is s at) (omega arith) (start h)))
+  param-is = ends _ (known _ _ (at + 3) (text-is s (at + 1) t isName) (omega arith) (known _ _ (at + 1) (type-is s at) refl (start h)))
 
 module _ (t : List Text) (s : List ℕ) (at : ℕ) (h : IsOk (modifier t s at)) where
   pub modifier-in : at < length s
@@ -155,6 +163,9 @@ module _ (t : List Text) (s : List ℕ) (at : ℕ) (h : IsOk (modifier t s at)) 
   pub modifier-below : getD s at 0 < 4
   unfolding modifier
   modifier-below = choice-below s at 4 _ (start h)
+
+  pub modifier-end : nextOf (modifier t s at) ≤ length s
+  modifier-end = let i = modifier-in in let l : at ≤ length s = omega arith in modifier-moves t .moves s at l h .1
 
   -- behind the case byte
   modifier-goes : (c : ℕ) → getD s at 0 ≡ c → Goes (modifier t s at) (getD (ctrl t ∷ negCtrl t ∷ inv t ∷ pow t ∷ []) c (refuse 4 at)) s (at + 1)
@@ -167,13 +178,13 @@ module _ (t : List Text) (s : List ℕ) (at : ℕ) (h : IsOk (modifier t s at)) 
     unfolding ctrl
     ctrl-count = field _ _ (modifier-goes 0 b)
 
-    pub ctrl-inside : (k : ℕ) → k ≡ nextOf (option (held t) s (at + 1)) → k + 8 ≤ length s
-    unfolding ctrl
-    ctrl-inside k k-end = span-in s k (field _ _ (past _ _ none k k-end (modifier-goes 0 b)))
+    module _ (k : ℕ) (k-end : k ≡ nextOf (option (held t) s (at + 1))) where
+      pub ctrl-is : modifier t s at ≡ ok (GateModifier.Ctrl (valueOr none (option (held t) s (at + 1))) (spanAt s k)) (k + 8)
+      unfolding ctrl
+      ctrl-is = ends _ (known _ _ (k + 8) (span-is s k) refl (past _ _ none k k-end (modifier-goes 0 b)))
 
-    pub ctrl-is : (k : ℕ) → k ≡ nextOf (option (held t) s (at + 1)) → modifier t s at ≡ ok (GateModifier.Ctrl (valueOr none (option (held t) s (at + 1))) (spanAt s k)) (k + 8)
-    unfolding ctrl
-    ctrl-is k k-end = ends _ (known _ _ (k + 8) (span-is s k) (omega arith) (past _ _ none k k-end (modifier-goes 0 b)))
+      pub ctrl-inside : k + 8 ≤ length s
+      ctrl-inside = end-in ctrl-is (modifier-end)
 
   -- `negctrl`
   module _ (b : getD s at 0 ≡ 1) where
@@ -181,23 +192,22 @@ module _ (t : List Text) (s : List ℕ) (at : ℕ) (h : IsOk (modifier t s at)) 
     unfolding negCtrl
     negCtrl-count = field _ _ (modifier-goes 1 b)
 
-    pub negCtrl-inside : (k : ℕ) → k ≡ nextOf (option (held t) s (at + 1)) → k + 8 ≤ length s
-    unfolding negCtrl
-    negCtrl-inside k k-end = span-in s k (field _ _ (past _ _ none k k-end (modifier-goes 1 b)))
+    module _ (k : ℕ) (k-end : k ≡ nextOf (option (held t) s (at + 1))) where
+      pub negCtrl-is : modifier t s at ≡ ok (GateModifier.NegCtrl (valueOr none (option (held t) s (at + 1))) (spanAt s k)) (k + 8)
+      unfolding negCtrl
+      negCtrl-is = ends _ (known _ _ (k + 8) (span-is s k) refl (past _ _ none k k-end (modifier-goes 1 b)))
 
-    pub negCtrl-is : (k : ℕ) → k ≡ nextOf (option (held t) s (at + 1)) → modifier t s at ≡ ok (GateModifier.NegCtrl (valueOr none (option (held t) s (at + 1))) (spanAt s k)) (k + 8)
-    unfolding negCtrl
-    negCtrl-is k k-end = ends _ (known _ _ (k + 8) (span-is s k) (omega arith) (past _ _ none k k-end (modifier-goes 1 b)))
+      pub negCtrl-inside : k + 8 ≤ length s
+      negCtrl-inside = end-in negCtrl-is (modifier-end)
 
   -- `inv`
   module _ (b : getD s at 0 ≡ 2) where
-    pub inv-inside : at + 9 ≤ length s
-    unfolding inv
-    inv-inside = span-in-at s (at + 1) _ (omega arith) (field _ _ (modifier-goes 2 b))
-
     pub inv-is : modifier t s at ≡ ok (GateModifier.Inv (spanAt s (at + 1))) (at + 9)
     unfolding inv
     inv-is = ends _ (known _ _ (at + 9) (span-is s (at + 1)) (omega arith) (modifier-goes 2 b))
+
+    pub inv-inside : at + 9 ≤ length s
+    inv-inside = end-in inv-is (modifier-end)
 
   -- `pow`
   module _ (b : getD s at 0 ≡ 3) where
@@ -205,10 +215,10 @@ module _ (t : List Text) (s : List ℕ) (at : ℕ) (h : IsOk (modifier t s at)) 
     unfolding pow
     pow-exponent = field _ _ (modifier-goes 3 b)
 
-    pub pow-inside : (k : ℕ) → k ≡ nextOf (held t s (at + 1)) → k + 8 ≤ length s
-    unfolding pow
-    pow-inside k k-end = span-in s k (field _ _ (past _ _ blank k k-end (modifier-goes 3 b)))
+    module _ (k : ℕ) (k-end : k ≡ nextOf (held t s (at + 1))) where
+      pub pow-is : modifier t s at ≡ ok (GateModifier.Pow (valueOr blank (held t s (at + 1))) (spanAt s k)) (k + 8)
+      unfolding pow
+      pow-is = ends _ (known _ _ (k + 8) (span-is s k) refl (past _ _ blank k k-end (modifier-goes 3 b)))
 
-    pub pow-is : (k : ℕ) → k ≡ nextOf (held t s (at + 1)) → modifier t s at ≡ ok (GateModifier.Pow (valueOr blank (held t s (at + 1))) (spanAt s k)) (k + 8)
-    unfolding pow
-    pow-is k k-end = ends _ (known _ _ (k + 8) (span-is s k) (omega arith) (past _ _ blank k k-end (modifier-goes 3 b)))
+      pub pow-inside : k + 8 ≤ length s
+      pow-inside = end-in pow-is (modifier-end)

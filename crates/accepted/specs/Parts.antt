@@ -1,6 +1,6 @@
 -- What an accepted answer says of its parts: general laws of answers and of readers in sequence. Assumes nothing.
-use Prim.Native.Nat.{ℕ, zero, suc, _+_, _-_, _≤_, _<_}
-use mathlib.Core.Path.{_≡_, refl, sym, ap, _∙_, subst}
+use Prim.Native.Nat.{ℕ, _≤_}
+use mathlib.Core.Path.{_≡_, refl, sym, _∙_, subst}
 use mathlib.Core.List.{List}
 use mathlib.Core.Bool.{Bool, true, false}
 use Rattle.tree.specs.Ans.{Ans, ok, refused, Reader, bind, _>>=_, _>>_, done, here, refuse, check, IsOk, nextOf, given}
@@ -40,6 +40,9 @@ module _ {A : Type 0} where
     unfolding nextOf
     next-is = rw e
 
+    pub end-in : {n : ℕ} → nextOf x ≤ n → k ≤ n
+    end-in l = rw next-is at l
+
     pub value-is : (d : A) → valueOr d x ≡ a
     unfolding valueOr
     value-is d = rw e
@@ -56,7 +59,12 @@ pub record Goes {B : Type 0} (x : Ans B) (q : Reader B) (s : List ℕ) (k : ℕ)
 pub start : {B : Type 0} {q : Reader B} {s : List ℕ} {k : ℕ} → IsOk (q s k) → Goes (q s k) q s k
 start h = record { fine = h; is = refl }
 
-bind-first : {A B : Type 0} (y : Ans A) (f : A → ℕ → Ans B) → IsOk (bind y f) → IsOk y
+pub bind-is : {A B : Type 0} (d : A) (y : Ans A) (f : A → ℕ → Ans B) → IsOk y → bind y f ≡ f (valueOr d y) (nextOf y)
+unfolding bind IsOk valueOr nextOf
+bind-is d (ok a next) f h = refl
+bind-is d (refused number place) f h = absurd h
+
+pub bind-first : {A B : Type 0} (y : Ans A) (f : A → ℕ → Ans B) → IsOk (bind y f) → IsOk y
 unfolding bind IsOk
 bind-first (ok a next) f h = tt
 bind-first (refused number place) f h = absurd h
@@ -90,6 +98,10 @@ module _ {B : Type 0} {x : Ans B} {s : List ℕ} {k : ℕ} where
   unfolding _>>=_ bind here
   past-here f g = record { fine = g .fine; is = g .is }
 
+  pub unit-field : (r : Reader (Unit {0})) (q : Reader B) → Goes x (_>>_ r q) s k → IsOk (r s k)
+  unfolding _>>_
+  unit-field r q g = bind-first _ _ (subst IsOk (g .is) (g .fine))
+
   module _ (b : Bool) (number place : ℕ) (q : Reader B) where
     pub checked : Goes x (_>>_ (check b number place) q) s k → b ≡ true
     checked g = check-first b number place q s k (subst IsOk (g .is) (g .fine))
@@ -97,6 +109,11 @@ module _ {B : Type 0} {x : Ans B} {s : List ℕ} {k : ℕ} where
     pub past-check : Goes x (_>>_ (check b number place) q) s k → Goes x q s k
     unfolding _>>_ bind check done
     past-check g = record { fine = g .fine; is = g .is ∙ rw (checked g) }
+
+  -- past a reader of no value
+  pub past-unit : (r : Reader (Unit {0})) (q : Reader B) (m : ℕ) → (IsOk (r s k) → r s k ≡ ok tt m) → Goes x (_>>_ r q) s k → Goes x q s m
+  unfolding _>>_ bind
+  past-unit r q m e g = record { fine = g .fine; is = g .is ∙ rw (e (unit-field r q g)) }
 
   -- the end of the fields
   pub ends : (a : B) → Goes x (done a) s k → x ≡ ok a k

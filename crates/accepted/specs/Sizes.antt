@@ -1,13 +1,13 @@
 -- Options and Vecs of values of one size: where they end. Assumes nothing.
-use Prim.Native.Nat.{ℕ, zero, suc, _+_, _-_, _*_, _≤_, _<_}
+use Prim.Native.Nat.{ℕ, zero, suc, _+_, _*_, _<_}
 use mathlib.Core.Path.{_≡_, refl, sym, ap, _∙_}
-use mathlib.Core.List.{List, [], _∷_}
+use mathlib.Core.List.{List}
 use native.Mathlib.Omega.{arith}
 use native.Mathlib.Numerals.{sub-one}
-use lib.ListN.{length, getD}
+use lib.ListN.{getD}
 use Rattle.ast.specs.Tree.{Text}
-use Rattle.tree.specs.Ans.{Ans, ok, Reader, IsOk, nextOf}
-use Rattle.tree.specs.Read.{number, option, repeat, counted, vec}
+use Rattle.tree.specs.Ans.{Reader, IsOk, nextOf}
+use Rattle.tree.specs.Read.{number, option, repeat, counted}
 use Rattle.tree.specs.Exprs.{name}
 use Rattle.tree.specs.Stmts.{qualifier, slice, param}
 use Rattle.accepted.specs.Parts.{next-is}

@@ -4,3 +4,4 @@ pub mod exprs;
 pub mod numbers;
 pub mod operands;
 pub mod parts;
+pub mod stmts;

@@ -1,7 +1,7 @@
 // Numbers, big-endian, and spans.
 ghost use mathlib.Core.Path.{_≡_};
 ghost use Prim.Native.Nat.{_+_, _≤_, _<_};
-ghost use lib.ListN.{length, getD};
+ghost use lib.ListN.{length};
 ghost use Rattle.context.specs.View.{numberAt, spanAt};
 use span::Span;
 

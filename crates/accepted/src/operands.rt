@@ -1,14 +1,12 @@
 // Operands, and the Options and Vecs of fixed sizes.
 ghost use mathlib.Core.Path.{_≡_};
-ghost use Prim.Native.Nat.{_+_, _≤_, _<_};
-ghost use lib.ListN.{length, getD};
-ghost use Rattle.tree.specs.Ans.{ok, IsOk, nextOf};
-ghost use Rattle.tree.specs.Read.{u64, option, vec};
+ghost use Prim.Native.Nat.{_+_};
+ghost use Rattle.tree.specs.Ans.{ok, IsOk};
+ghost use Rattle.tree.specs.Read.{u64, option};
 ghost use Rattle.tree.specs.Exprs.{name};
-ghost use Rattle.tree.specs.Stmts.{slice, operand, param};
+ghost use Rattle.tree.specs.Stmts.{slice, operand};
 ghost use Rattle.tree.specs.Decode.{textsOf};
 ghost use Rattle.context.specs.Values.{numberOf, endsOf, operandOf};
-ghost use Rattle.accepted.specs.Sizes.{optionEnd};
 use crate::numbers::span_at;
 use crate::numbers::u16_at;
 use crate::numbers::u64_at;

@@ -8,7 +8,7 @@ use lib.ListN.{length, getD, take, length-take, length-append, length-map}
 use borrow.Author.Tests.{le-leb, lt-leb}
 use Rattle.ast.specs.Tree.{Text, Stmts, Program}
 use Rattle.tree.specs.Limits.{fileLimit, textsLimit, stmtLevels}
-use Rattle.tree.specs.Ans.{Ans, ok, refused, bind, _>>=_, _>>_, done, here, refuse, check}
+use Rattle.tree.specs.Ans.{Ans, ok, refused, bind, _>>=_, _>>_, done, here, refuse, check, given}
 use Rattle.tree.specs.Read.{number}
 use Rattle.tree.specs.Texts.{text, moreTexts, texts}
 use Rattle.tree.specs.Stmts.{body, stmt}
@@ -16,7 +16,7 @@ use Rattle.tree.specs.Decode.{size, nothingLeft, file, decode}
 use Rattle.tree.proofs.Steps.{number-in, number-end, two}
 use Rattle.reader.specs.Answers.{forget, validated}
 use Rattle.reader.specs.Section.{kindOf, kindsOf, Gathered}
-use Rattle.tree.specs.Decode.{textsIn, textsOf}
+use Rattle.tree.specs.Decode.{textsOf}
 use Rattle.reader.specs.declared.Read.{Read}
 use Rattle.reader.specs.declared.Read.the-variants.{At, Refused}
 use Rattle.reader.specs.declared.Validated.the-variants.{Accepted, Refused as ValidatedRefused}
@@ -57,10 +57,10 @@ more-count (suc n) earlier s at t k e = go (text earlier s at) e (λ x next f. m
 
 module _ (s kinds : List ℕ) (a : Read) (k : ℕ) (gathered : Gathered s kinds a) (g : a ≡ At k) where
   texts-are : texts s 0 ≡ ok (textsOf s) k
-  unfolding textsOf textsIn forget
+  unfolding textsOf given forget
   texts-are = go (texts s 0) (gathered .answer)
     where
-      go : (x : Ans (List Text)) → a ≡ forget x → x ≡ ok (textsIn x) k
+      go : (x : Ans (List Text)) → a ≡ forget x → x ≡ ok (given [] (λ t. t) x) k
       go (ok t next) e = let z : next ≡ k = cc in rw z
       go (refused m p) e = absurd (not-both g e)
 

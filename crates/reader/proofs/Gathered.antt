@@ -12,13 +12,13 @@ use lib.Dec.{leb}
 use borrow.Author.Tests.{le-leb, lt-leb}
 use Rattle.ast.specs.Tree.{Text}
 use Rattle.tree.specs.Limits.{textsLimit, textLimit}
-use Rattle.tree.specs.Ans.{Ans, ok, refused, bind, _>>=_, _>>_, done, here, refuse, check}
+use Rattle.tree.specs.Ans.{Ans, ok, refused, bind, _>>=_, _>>_, done, here, refuse, check, given}
 use Rattle.tree.specs.Read.{bytes, within, number}
 use Rattle.tree.specs.Texts.{allowed, among, text, moreTexts, texts, between}
 use Rattle.tree.proofs.Steps.{byte-in, number-in, two}
 use Rattle.reader.specs.Answers.{forget}
 use Rattle.reader.specs.Section.{textAt, past, textsFrom, pastTexts, kindOf, kindsOf, Gathered}
-use Rattle.tree.specs.Decode.{textsIn, textsOf}
+use Rattle.tree.specs.Decode.{textsOf}
 use Rattle.reader.specs.declared.Read.{Read}
 use Rattle.reader.specs.declared.Read.the-variants.{At, Refused}
 use Rattle.reader.proofs.Values.{le-or-lt, not-both, bind-refused, number-there, number-next}
@@ -90,10 +90,10 @@ module _ (earlier : List Text) (s : List ℕ) (at : ℕ) (r : Read) (next : ℕ)
 -- a refusal leaves no kinds
 module _ (s kinds : List ℕ) (r : Read) (m p : ℕ) (g : r ≡ Refused m p) where
   gathered-none : r ≡ forget (texts s 0) → Gathered s kinds r
-  unfolding textsOf textsIn kindsOf forget
+  unfolding textsOf given kindsOf forget
   gathered-none e = record { answer = e; stored = go (texts s 0) e }
     where
-      go : (x : Ans (List Text)) → r ≡ forget x → take (length (textsIn x)) kinds ≡ map kindOf (textsIn x)
+      go : (x : Ans (List Text)) → r ≡ forget x → take (length (given [] (λ t. t) x)) kinds ≡ map kindOf (given [] (λ t. t) x)
       go (ok t next) e = absurd (not-both e g)
       go (refused a b) e = refl
 
@@ -155,7 +155,7 @@ module _ (s kinds : List ℕ) (n i k : ℕ) (going : Going s kinds n i k) where
       }
 
   pub going-end : n ≤ i → Gathered s kinds (At k)
-  unfolding moreTexts done forget textsOf textsIn kindsOf
+  unfolding moreTexts done forget textsOf given kindsOf
   going-end h =
       let z : n - i ≡ 0 = omega arith in
       let t : texts s 0 ≡ ok (textsFrom s i 2) k = going .remain ∙ rw z refl in

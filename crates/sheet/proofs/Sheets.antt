@@ -76,7 +76,7 @@ module _ (index : List ℕ) (count : ℕ) (sheet : List ℕ) (op : GateOperand) 
 
   pub set-marks : (size : Option ℕ) (p : ℕ) → 0 < p → Covers (keysIn index count) (measuring size op) → r ≡ stored (touches false size op) p (keysIn index count) sheet
       → (tree : List ℕ) → marksOf tree (keysIn index count) r ≡ apply (measuring size op) (measureSpan tree p) (marksOf tree (keysIn index count) sheet)
-  unfolding measuring
+  unfolding measuring touches reaches
   set-marks size zero h c e tree = absurd (omega arith)
   set-marks size (suc q) h c e tree = rw e (marks-set tree (touches false size op) (keysIn index count) sheet fits q c)
 

@@ -13,7 +13,7 @@ use Rattle.sema.specs.Limits.{keyLimit}
 use Rattle.sema.specs.Symbols.{empty}
 use Rattle.sema.specs.Marks.{Key, key, Effect, set, keep, inSlice, isIndex, belowSize, measures}
 use Rattle.sema.specs.Keys.{sameKey, hasKey, addKey, addIndices, addRange, addMeasured, sizeOr0, keys}
-use Rattle.sheet.specs.Sheet.{Distinct, Covers, reaches, touches, measuring}
+use Rattle.sheet.specs.Sheet.{Distinct, Covers, measuring}
 use Rattle.sheet.specs.Places.{never, by-test, both, key-eq, same-key, has-here, has-there}
 use Rattle.sheet.specs.Table.{add-there, add-new, keep-indices, keep-range, keep-stmts}
 
@@ -170,7 +170,7 @@ is-set false e = let z : _≡_ {A = ℕ} 0 1 = cc in absurd (omega arith)
 pub covers-measured : (ks : List Key) (size : Option ℕ) (op : GateOperand)
     → length (addMeasured ks (op .name) size (op .slice) (op .index)) ≤ keyLimit
     → Covers (addMeasured ks (op .name) size (op .slice) (op .index)) (measuring size op)
-unfolding Covers measuring touches reaches
+unfolding Covers measuring
 covers-measured ks size op h k e =
     let t = both (eqb (k .name) (op .name)) (measures size (op .slice) (op .index) (k .index)) (is-set _ e) in
     let q : op .name ≡ k .name = sym (eqb-true (k .name) (op .name) (t .0)) in

@@ -2,17 +2,16 @@
 use Prim.Native.Nat.{ℕ, zero, suc, _≤_}
 use mathlib.Core.Path.{_≡_, refl, sym, ap, _∙_}
 use mathlib.Core.List.{List, [], _∷_}
-use mathlib.Core.Option.{Option}
 use mathlib.Core.Bool.{Bool, true, false, cond, _&&_}
 use native.Mathlib.Omega.{arith}
 use lib.ListN.{length, replicate}
 use Rattle.span.specs.declared.Span.{Span}
 use Rattle.ast.specs.Tree.{GateOperand}
 use Rattle.sema.specs.Symbols.{Symbols, get}
-use Rattle.sema.specs.Marks.{Key, noMarks, set, clear, keep, sizeOf, markMeasured, clearMeasured, mark, apply, unite}
+use Rattle.sema.specs.Marks.{Key, noMarks, set, clear, keep, sizeOf, markMeasured, mark, apply, unite}
 use Rattle.sema.specs.Keys.{sameKey, hasKey}
 use Rattle.context.specs.View.{placeIn, measureSpan, markBy, marksOf}
-use Rattle.sheet.specs.Sheet.{first, Covers, reaches, touches, measuring, stored, united}
+use Rattle.sheet.specs.Sheet.{first, Covers, measuring, stored, united}
 use Rattle.sheet.specs.Places.{never, by-test, key-eq, has-here, has-there, place-here, place-there, unplaced, mark-first}
 
 -- the place of a key after a store
@@ -56,7 +55,7 @@ module _ (tree : List ℕ) (t : Key → Bool) (ks : List Key) (vs : List ℕ) (h
 
 -- `mark_measured` where the symbols are ss
 pub measured-is : (ss : Symbols) (op : GateOperand) → markMeasured ss op ≡ measuring (sizeOf (get ss (op .name))) op
-unfolding markMeasured measuring touches reaches
+unfolding markMeasured measuring
 measured-is ss op = refl
 
 -- a sheet with no place has no mark

@@ -77,17 +77,17 @@ Distinct (k ∷ ks) = (hasKey ks k ≡ false) × Distinct ks
 unfoldable pub Covers : List Key → (Key → Effect) → Type 0
 Covers ks f = (k : Key) → f k ≡ set → hasKey ks k ≡ true
 
--- a measure of an operand sets a key, where the name shows a size; a reset clears it
+-- `mark_measured`, where the name shows a size
+unfoldable pub measuring : Option ℕ → GateOperand → Key → Effect
+measuring size op k = cond (eqb (k .name) (op .name) && measures size (op .slice) (op .index) (k .index)) set keep
+
+-- one test for both: a measure sets a key of the name, or a reset (all) clears it
 unfoldable pub reaches : Bool → Option ℕ → Option (ℕ × ℕ) → Option ℕ → Option ℕ → Bool
 reaches true size slice index i = resets slice index i
 reaches false size slice index i = measures size slice index i
 
 unfoldable pub touches : Bool → Option ℕ → GateOperand → Key → Bool
 touches all size op k = eqb (k .name) (op .name) && reaches all size (op .slice) (op .index) (k .index)
-
--- `mark_measured`, where the name shows a size
-unfoldable pub measuring : Option ℕ → GateOperand → Key → Effect
-measuring size op k = cond (touches false size op k) set keep
 
 -- a place for each key that passes a test
 unfoldable pub stored : (Key → Bool) → ℕ → List Key → List ℕ → List ℕ

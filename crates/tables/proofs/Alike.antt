@@ -1,14 +1,14 @@
 -- The views of an entry go by its bytes alone. Assumes nothing.
-use Prim.Native.Nat.{ℕ, zero, suc, _+_, _-_, _*_, _≤_, _<_}
+use Prim.Native.Nat.{ℕ, zero, suc, _+_, _-_, _≤_, _<_}
 use mathlib.Core.Path.{_≡_, refl, sym, ap, _∙_}
-use mathlib.Core.List.{List, [], _∷_, _++_, append-assoc}
+use mathlib.Core.List.{List, _++_, append-assoc}
 use mathlib.Core.Logic.{_⊎_, inl, inr, ⊎-elim}
 use native.Mathlib.Omega.{arith}
 use native.Mathlib.Nat.{add-zero}
-use lib.ListN.{length, getD, take, drop, length-append, length-take, length-drop, List·getD-append}
+use lib.ListN.{length, getD, take, drop, length-drop, List·getD-append}
 use lib.Seq.{sets, sets-eq, length-take-le, take-append-le, drop-append-le, drop-at, drop-drop, getD-drop}
 use Rattle.tree.specs.Read.{value}
-use Rattle.context.specs.View.{numberAt, spanAt, typeOf, symbolBy, symbolAt, gateBy, functionBy}
+use Rattle.context.specs.View.{numberAt, spanAt, symbolBy, symbolAt, gateBy, functionBy}
 use Rattle.tables.proofs.Frame.{Outside, same-part}
 
 -- so many bytes of s from a on are those of t from b on

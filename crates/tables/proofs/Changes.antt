@@ -1,61 +1,63 @@
 -- What the tables are after a change of the scratch. Assumes nothing.
 use Prim.Native.Nat.{ℕ, zero, suc, _+_, _-_, _*_, _≤_, _<_}
-use mathlib.Core.Path.{_≡_, refl, sym, ap, ap₂, _∙_, fun-ext}
-use mathlib.Core.List.{List, [], _∷_, map}
+use mathlib.Core.Path.{_≡_, refl, sym, ap₂, fun-ext}
+use mathlib.Core.List.{List, _∷_}
 use mathlib.Core.Logic.{_⊎_, inl, inr, ⊎-elim}
 use mathlib.Core.Bool.{Bool, true, false}
-use mathlib.Core.Option.{Option, none, some}
+use mathlib.Core.Option.{Option, some}
 use native.Mathlib.Omega.{arith}
-use lib.ListN.{length, getD, set, take, drop, length-take, length-drop, length-map}
-use lib.Seq.{sets}
+use native.Mathlib.Nat.{mul-le-mul-right, suc-mul}
+use lib.ListN.{length, getD, take, drop, length-take, length-drop, length-map}
 use lib.Dec.{ltb, eqb}
 use borrow.Author.Tests.{ltb-true, lt-ltb, eqb-true, eqb-false}
 use Rattle.text.proofs.Clamp.{split}
-use Rattle.sema.specs.Symbols.{Symbol, GateSig, FunctionSig, Table, Scope, Symbols, empty, insert, insertCurrent}
+use Rattle.sema.specs.Symbols.{Symbol, GateSig, FunctionSig, Table, Scope, Symbols, insert}
 use Rattle.context.specs.View.{below256, typeOf, symbolAt, symbolPlace, scopeOf, scopesOf, gateBase, gatePlace, gateBy, gatesOf, functionBase, functionPlace, functionBy, functionsOf}
-use Rattle.tables.specs.Tables.{tablesEnd, Becomes, KeepsScopes, paramsOf, FewParams}
-use Rattle.tables.proofs.Frame.{Outside, same-drop}
-use Rattle.tables.proofs.Alike.{Alike, untouched, symbol-alike, gate-alike, function-alike}
+use Rattle.tables.specs.Tables.{paramsOf, FewParams}
+use Rattle.tables.proofs.Frame.{Outside}
+use Rattle.tables.proofs.Alike.{untouched, symbol-alike, gate-alike, function-alike}
 use Rattle.tables.proofs.Views.{function-at}
+
+-- entries are asked below 256 alone
+below-same : {A : Type 0} (x : ℕ) (p q : Option A) → (x < 256 → p ≡ q) → below256 x p ≡ below256 x q
+below-same x p q h = at (ltb x 256) refl
+  where
+    at : (b : Bool) → ltb x 256 ≡ b → below256 x p ≡ below256 x q
+    at true e = rw e (h (ltb-true x 256 e))
+    at false e = rw e
 
 module _ {A : Type 0} (f g : ℕ → Option A) where
   -- tables with the same entries
   table-same : ((x : ℕ) → x < 256 → g x ≡ f x) → _≡_ {A = Table A} (λ x. below256 x (g x)) (λ x. below256 x (f x))
-  table-same h = fun-ext (λ x. at x (ltb x 256) refl)
-    where
-      at : (x : ℕ) (b : Bool) → ltb x 256 ≡ b → below256 x (g x) ≡ below256 x (f x)
-      at x true e = rw e (h x (ltb-true x 256 e))
-      at x false e = rw e
+  table-same h = fun-ext (λ x. below-same x (g x) (f x) (h x))
 
   -- tables that differ in one entry
   table-insert : (x : ℕ) (a : A) → x < 256 → g x ≡ some a → ((y : ℕ) → (y ≡ x → ⊥) → y < 256 → g y ≡ f y) → _≡_ {A = Table A} (λ y. below256 y (g y)) (insert (λ y. below256 y (f y)) x a)
   unfolding insert
   table-insert x a l e h = fun-ext (λ y. at y (eqb x y) refl)
     where
-      other : (y : ℕ) → (y ≡ x → ⊥) → (b : Bool) → ltb y 256 ≡ b → below256 y (g y) ≡ below256 y (f y)
-      other y n true k = rw k (h y n (ltb-true y 256 k))
-      other y n false k = rw k
-
       at : (y : ℕ) (b : Bool) → eqb x y ≡ b → below256 y (g y) ≡ insert (λ z. below256 z (f z)) x a y
       at y true k = rw (k, ← eqb-true x y k, lt-ltb x 256 l) e
-      at y false k = rw k (other y (λ q. eqb-false x y k (sym q)) (ltb y 256) refl)
+      at y false k = rw k (below-same y (g y) (f y) (h y (λ q. eqb-false x y k (sym q))))
 
--- entries of some width other than entry x lie before it or behind it
-apart : (y x : ℕ) → (y ≡ x → ⊥) → (y < x) ⊎ (x < y)
-apart y x n = ⊎-elim (λ (h : x ≤ y). inr (omega arith)) (λ (h : y < x). inl h) (split x y)
+-- where a change lies within entry x, entry y lies before it or behind it, whatever the width of the entries
+apart : (base w y x a b : ℕ) → (y ≡ x → ⊥) → base + x * w ≤ a → b ≤ base + x * w + w → (base + y * w + w ≤ a) ⊎ (b ≤ base + y * w)
+apart base w y x a b n from to =
+    ⊎-elim
+    (λ (h : x ≤ y). let k : suc x * w ≤ y * w = mul-le-mul-right w (omega arith) in inr (omega (arith, suc-mul x w, k)))
+    (λ (h : y < x). let k : suc y * w ≤ x * w = mul-le-mul-right w h in inl (omega (arith, suc-mul y w, k)))
+    (split x y)
 
 module _ {a b : ℕ} {s t : List ℕ} (r : Outside a b s t) where
-  scope-kept : (level : ℕ) → (level * 4608 + 4608 ≤ a) ⊎ (b ≤ level * 4608) → scopeOf t level ≡ scopeOf s level
+  scope-kept : (level : ℕ) → level * 4608 + 4608 ≤ a → scopeOf t level ≡ scopeOf s level
   unfolding scopeOf
-  scope-kept level o =
-      table-same _ _ (λ x h. symbol-alike (untouched r 18 (symbolPlace level x)
-      (⊎-elim (λ (u : level * 4608 + 4608 ≤ a). inl (omega arith)) (λ (u : b ≤ level * 4608). inr (omega arith)) o)) (omega arith))
+  scope-kept level o = table-same _ _ (λ x h. symbol-alike (untouched r 18 (symbolPlace level x) (inl (omega arith))) (omega arith))
 
   pub scopes-kept : (depth : ℕ) → depth * 4608 ≤ a → scopesOf t depth ≡ scopesOf s depth
   unfolding scopesOf
   scopes-kept zero h = refl
   scopes-kept (suc depth) h =
-      ap₂ (λ (c : Scope) (ss : Symbols). c ∷ ss) (scope-kept depth (inl (omega arith))) (scopes-kept depth (omega arith))
+      ap₂ (λ (c : Scope) (ss : Symbols). c ∷ ss) (scope-kept depth (omega arith)) (scopes-kept depth (omega arith))
 
   pub gates-kept : (gateBase + 2816 ≤ a) ⊎ (b ≤ gateBase) → gatesOf t ≡ gatesOf s
   unfolding gatesOf
@@ -74,14 +76,12 @@ module _ {a b : ℕ} {s t : List ℕ} (r : Outside a b s t) where
   pub scope-insert : (level x : ℕ) (v : Symbol) → x < 256 → symbolPlace level x ≤ a → b ≤ symbolPlace level x + 18 → symbolAt t (symbolPlace level x) ≡ some v → scopeOf t level ≡ insert (scopeOf s level) x v
   unfolding scopeOf
   scope-insert level x v l from to e =
-      table-insert _ _ x v l e (λ y n h. symbol-alike (untouched r 18 (symbolPlace level y)
-      (⊎-elim (λ (u : y < x). inl (omega arith)) (λ (u : x < y). inr (omega arith)) (apart y x n))) (omega arith))
+      table-insert _ _ x v l e (λ y n h. symbol-alike (untouched r 18 (symbolPlace level y) (apart (level * 4608) 18 y x a b n from to)) (omega arith))
 
   pub gate-insert : (x : ℕ) (g : GateSig) → x < 256 → gatePlace x ≤ a → b ≤ gatePlace x + 11 → gateBy t (gatePlace x) (getD t (gatePlace x) 0) ≡ some g → gatesOf t ≡ insert (gatesOf s) x g
   unfolding gatesOf
   gate-insert x g l from to e =
-      table-insert _ _ x g l e (λ y n h. gate-alike (untouched r 11 (gatePlace y)
-      (⊎-elim (λ (u : y < x). inl (omega arith)) (λ (u : x < y). inr (omega arith)) (apart y x n))) (omega arith))
+      table-insert _ _ x g l e (λ y n h. gate-alike (untouched r 11 (gatePlace y) (apart gateBase 11 y x a b n from to)) (omega arith))
 
 few-by : (s : List ℕ) (at code : ℕ) → 65536 ≤ length s → at ≤ 51200 → length (paramsOf (functionBy s at code)) ≤ 16 → (code ≡ 0 → ⊥) → getD s (at + 2) 0 ≤ 16
 few-by s at zero room h few n = absurd (n refl)
@@ -97,5 +97,4 @@ module _ {a b : ℕ} {s t : List ℕ} (r : Outside a b s t) where
       table-insert _ _ x f l e (λ y n h.
       let at = functionPlace y in
       let k : (getD s at 0 ≡ 0 → ⊥) → getD s (at + 2) 0 ≤ 16 = few-by s at (getD s at 0) room (omega arith) (rw (function-at s y h) at (few .few y)) in
-      function-alike (untouched r 27 at
-      (⊎-elim (λ (u : y < x). inl (omega arith)) (λ (u : x < y). inr (omega arith)) (apart y x n))) (omega arith) (λ z. omega (arith, k z)))
+      function-alike (untouched r 27 at (apart functionBase 27 y x a b n from to)) (omega arith) (λ z. omega (arith, k z)))

@@ -5,4 +5,5 @@ pub mod Views
 pub mod Frame
 pub mod Alike
 pub mod Changes
+pub mod Back
 pub mod Becoming

@@ -1,5 +1,5 @@
 -- An entry's fields stored one after the other are the entry stored. Assumes nothing.
-use Prim.Native.Nat.{ℕ, zero, suc, _+_, _-_, _*_, _≤_, _<_}
+use Prim.Native.Nat.{ℕ, suc, _+_, _-_, _*_, _≤_, _<_}
 use mathlib.Core.Path.{_≡_, refl, sym, ap, _∙_, subst}
 use mathlib.Core.List.{List, [], _∷_, _++_, append-nil}
 use mathlib.Core.Option.{Option, none, some}
@@ -19,7 +19,7 @@ use Rattle.context.specs.declared.Number.{Number}
 use Rattle.context.specs.Values.{numberOf as sizeOf}
 use Rattle.tables.specs.Entries.{codeOf, spanBytes, sizeBytes, symbolBytes, gateBytes, typeBytes, functionBytes, emptied}
 use Rattle.tables.specs.Tables.{cleared}
-use Rattle.tables.proofs.Bytes.{length-big}
+use Rattle.tree.proofs.Back.{length-big}
 
 sets-append : (xs ys : List ℕ) (s : List ℕ) (at : ℕ) → sets s at (xs ++ ys) ≡ sets (sets s at xs) (at + length xs) ys
 sets-append [] ys s at = rw (add-zero at)

@@ -1,24 +1,24 @@
 -- What the readers find is what the views say. Assumes nothing.
-use Prim.Native.Nat.{ℕ, zero, suc, _+_, _-_, _*_, _≤_, _<_}
+use Prim.Native.Nat.{ℕ, zero, suc, _+_, _-_, _≤_, _<_}
 use mathlib.Core.Path.{_≡_, refl, sym, ap, _∙_}
-use mathlib.Core.List.{List, [], _∷_, map}
-use mathlib.Core.Option.{Option, none, some}
+use mathlib.Core.List.{List, map}
+use mathlib.Core.Option.{none, some}
 use native.Mathlib.Omega.{arith}
 use lib.ListN.{length, getD, take, drop, length-take, length-drop, length-map, List·getD-map}
 use lib.Seq.{length-take-le, getD-take, getD-drop}
 use borrow.Author.Tests.{lt-ltb}
 use Rattle.span.specs.declared.Span.{Span}
 use Rattle.ast.specs.declared.ClassicalType.{ClassicalType}
-use Rattle.sema.specs.Messages.{SymbolKind, Qubit}
-use Rattle.sema.specs.Symbols.{Symbol, get, getCurrent}
+use Rattle.sema.specs.Messages.{Qubit}
+use Rattle.sema.specs.Symbols.{get, getCurrent}
 use Rattle.context.specs.declared.Number.{Number}
 use Rattle.context.specs.declared.FoundSymbol.{FoundSymbol}
 use Rattle.context.specs.declared.FoundGate.{FoundGate}
 use Rattle.context.specs.declared.GateSig.{GateSig as GateValue}
 use Rattle.context.specs.declared.FoundFunction.{FoundFunction}
 use Rattle.context.specs.declared.Symbol.{Symbol as SymbolValue}
-use Rattle.context.specs.Values.{kindOf, numberOf, symbolOf, foundOf, gateOf, foundGateOf}
-use Rattle.context.specs.View.{numberAt, spanAt, typeOf, kinds, sizeBy, symbolBy, symbolAt, symbolPlace, scopeOf, scopesOf, gatePlace, gateBy, gatesOf, functionPlace, functionBy, functionsOf}
+use Rattle.context.specs.Values.{kindOf, numberOf, symbolOf, foundOf, foundGateOf}
+use Rattle.context.specs.View.{numberAt, spanAt, typeOf, kinds, sizeBy, symbolBy, symbolAt, symbolPlace, scopeOf, scopesOf, gatePlace, gatesOf, functionPlace, functionBy, functionsOf}
 use Rattle.tables.specs.Tables.{briefOf, paramsOf}
 
 some-suc : (n : ℕ) → (n ≡ 0 → ⊥) → n ≡ suc (n - 1)

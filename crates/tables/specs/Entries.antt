@@ -1,6 +1,6 @@
 -- The bytes of the tables' entries, as the views of the context read them.
 use Prim.Native.Nat.{ℕ, zero, suc, _+_}
-use mathlib.Core.List.{List, [], _∷_, _++_, map}
+use mathlib.Core.List.{List, [], _∷_, _++_}
 use mathlib.Core.Option.{Option, none, some}
 use lib.ListN.{getD, set}
 use Rattle.span.specs.declared.Span.{Span}
@@ -10,7 +10,7 @@ use Rattle.tree.specs.Encode.{big}
 use Rattle.tree.specs.Fits.{NumberFits, SpanFits, OptionFits}
 use Rattle.sema.specs.Messages.{SymbolKind, Qubit, Bit, Classical, Const, GateParam, GateQubit}
 use Rattle.sema.specs.Symbols.{Symbol, GateSig}
-use Rattle.context.specs.View.{typeOf, symbolSize}
+use Rattle.context.specs.View.{symbolSize}
 
 -- the code of a kind: its place among the kinds, counted from 1
 abbrev pub codeOf : SymbolKind → ℕ

@@ -1,16 +1,19 @@
 -- Laws of the tables for those who call this crate. Assumes nothing.
-use Prim.Native.Nat.{ℕ, suc, _+_, _*_, _≤_, _<_}
+use Prim.Native.Nat.{ℕ, zero, suc, _+_, _≤_, _<_}
 use mathlib.Core.Path.{_≡_, refl, ap, _∙_, fun-ext}
-use mathlib.Core.List.{List, [], _∷_, _++_}
+use mathlib.Core.List.{List, [], _∷_, _++_, map}
 use mathlib.Core.Bool.{Bool, true, false}
-use mathlib.Core.Option.{Option, none, some}
+use mathlib.Core.Option.{Option, none}
 use native.Mathlib.Omega.{arith}
-use lib.ListN.{length, getD, drop, replicate, length-replicate, getD-replicate, List·getD-append}
+use lib.ListN.{length, getD, drop, replicate, length-replicate, getD-replicate, length-map, List·getD-append}
 use lib.Dec.{ltb, eqb}
 use borrow.Author.Tests.{ltb-true}
-use Rattle.sema.specs.Symbols.{Symbol, FunctionSig, Table, Scope, Symbols, empty, insert, insertCurrent, GateSig}
-use Rattle.context.specs.View.{below256, symbolPlace, scopeOf, scopesOf, gatePlace, gatesOf, functionPlace, functionsOf}
-use Rattle.tables.specs.Tables.{Becomes, paramsOf, FewParams, cleared}
+use Rattle.span.specs.declared.Span.{Span}
+use Rattle.ast.specs.declared.ClassicalType.{ClassicalType}
+use Rattle.sema.specs.Symbols.{Symbol, FunctionSig, Table, Scope, Symbols, empty, insert, GateSig}
+use Rattle.context.specs.View.{typeOf, below256, symbolPlace, scopeOf, scopesOf, gatePlace, gatesOf, functionPlace, functionsOf}
+use Rattle.tables.specs.Entries.{typeBytes}
+use Rattle.tables.specs.Tables.{Becomes, Inserted, paramsOf, mostParams, FewParams, functionIn, cleared}
 
 -- a scope is left by counting one less
 pub leave : (s : List ℕ) (depth : ℕ) → scopesOf s (suc depth) ≡ scopeOf s depth ∷ scopesOf s depth
@@ -27,9 +30,9 @@ unfolding scopesOf
 scopes-below b = ap outer (b .scopes-are)
 
 -- so a symbol given at a level leaves the scopes below it
-pub insert-below : {s t : List ℕ} {depth : ℕ} (x : ℕ) (sym : Symbol) {gates : Table GateSig} {functions : Table FunctionSig} → Becomes s t (suc depth) (insertCurrent (scopesOf s (suc depth)) x sym) gates functions → scopesOf t depth ≡ scopesOf s depth
+pub insert-below : {s t : List ℕ} {depth : ℕ} (x : ℕ) (sym : Symbol) → Inserted s t (suc depth) x sym → scopesOf t depth ≡ scopesOf s depth
 unfolding scopesOf
-insert-below x sym b = ap outer (b .scopes-are)
+insert-below x sym b = scopes-below b
 
 -- Tables whose first bytes are 0 are empty.
 none-below : {A : Type 0} (f : ℕ → Option A) → ((x : ℕ) → x < 256 → f x ≡ none) → _≡_ {A = Table A} (λ x. below256 x (f x)) empty
@@ -69,14 +72,29 @@ cleared-gates s = gates-empty (cleared s) (λ x h. cleared-byte s (gatePlace x) 
 pub cleared-functions : (s : List ℕ) → functionsOf (cleared s) ≡ empty
 cleared-functions s = functions-empty (cleared s) (λ x h. cleared-byte s (functionPlace x) (omega arith))
 
--- No function has more than 16 parameters: at first, and after a definition with no more.
+-- No function has more parameters than its entry has room for: at first, and after a definition with no more.
 pub few-empty : FewParams empty
 few-empty = record { few = λ x. omega arith }
 
-pub few-insert : (t : Table FunctionSig) (x : ℕ) (f : FunctionSig) → FewParams t → length (f .params) ≤ 16 → FewParams (insert t x f)
+pub few-insert : (t : Table FunctionSig) (x : ℕ) (f : FunctionSig) → FewParams t → length (f .params) ≤ mostParams → FewParams (insert t x f)
 unfolding insert
 few-insert t x f h l = record { few = λ y. at y (eqb x y) refl }
   where
-    at : (y : ℕ) (b : Bool) → eqb x y ≡ b → length (paramsOf (insert t x f y)) ≤ 16
+    at : (y : ℕ) (b : Bool) → eqb x y ≡ b → length (paramsOf (insert t x f y)) ≤ mostParams
     at y true e = rw e l
     at y false e = rw e (h .few y)
+
+-- as many types as parameters
+pub length-types : (tree : List ℕ) (at n : ℕ) → length (typeBytes tree at n) ≡ n
+unfolding typeBytes
+length-types tree at zero = refl
+length-types tree at (suc n) = ap suc (length-types tree _ n)
+
+pub few-defined : (t : Table FunctionSig) (tree : List ℕ) (x at count : ℕ) (ty : ClassicalType) (sp : Span) → FewParams t → count ≤ mostParams → FewParams (insert t x (functionIn tree at count ty sp))
+few-defined t tree x at count ty sp h l =
+    let n : length (map typeOf (typeBytes tree at count)) ≡ count = length-map (typeBytes tree at count) typeOf ∙ length-types tree at count in
+    few-insert t x (functionIn tree at count ty sp) h (omega arith)
+
+-- and where a change keeps the functions, or makes such
+pub few-after : {s t : List ℕ} {depth : ℕ} {scopes : Symbols} {gates : Table GateSig} {functions : Table FunctionSig} → Becomes s t depth scopes gates functions → FewParams functions → FewParams (functionsOf t)
+few-after b h = rw (b .functions-are) h

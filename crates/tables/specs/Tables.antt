@@ -1,12 +1,13 @@
 -- What the functions of this crate say of the scratch and of what they find in it.
-use Prim.Native.Nat.{ℕ, _≤_}
+use Prim.Native.Nat.{ℕ, suc, _≤_}
 use mathlib.Core.Path.{_≡_}
-use mathlib.Core.List.{List, [], _++_, map}
+use mathlib.Core.List.{List, [], _∷_, _++_, map}
 use mathlib.Core.Option.{Option, none, some}
 use lib.ListN.{length, drop, replicate}
 use Rattle.span.specs.declared.Span.{Span}
+use Rattle.ast.specs.Tree.{TextNumber}
 use Rattle.ast.specs.declared.ClassicalType.{ClassicalType}
-use Rattle.sema.specs.Symbols.{GateSig, FunctionSig, Table, Symbols}
+use Rattle.sema.specs.Symbols.{Symbol, GateSig, FunctionSig, Table, Symbols, empty, insert, insertCurrent}
 use Rattle.context.specs.declared.FoundFunction.{FoundFunction}
 use Rattle.context.specs.View.{typeOf, scopesOf, gatesOf, functionsOf}
 use Rattle.tables.specs.Entries.{typeBytes}
@@ -27,6 +28,19 @@ pub record Becomes (s t : List ℕ) (depth : ℕ) (scopes : Symbols) (gates : Ta
 abbrev pub KeepsScopes : List ℕ → List ℕ → Table GateSig → Table FunctionSig → Type 0
 KeepsScopes s t gates functions = (depth : ℕ) → depth ≤ 9 → Becomes s t depth (scopesOf s depth) gates functions
 
+-- The four changes: a symbol given in the innermost scope, a scope entered, a gate defined, a function defined.
+abbrev pub Inserted : List ℕ → List ℕ → ℕ → TextNumber → Symbol → Type 0
+Inserted s t depth x sym = Becomes s t depth (insertCurrent (scopesOf s depth) x sym) (gatesOf s) (functionsOf s)
+
+abbrev pub Entered : List ℕ → List ℕ → ℕ → Type 0
+Entered s t depth = Becomes s t (suc depth) (empty ∷ scopesOf s depth) (gatesOf s) (functionsOf s)
+
+abbrev pub GateDefined : List ℕ → List ℕ → TextNumber → GateSig → Type 0
+GateDefined s t x g = KeepsScopes s t (insert (gatesOf s) x g) (functionsOf s)
+
+abbrev pub FunctionDefined : List ℕ → List ℕ → TextNumber → FunctionSig → Type 0
+FunctionDefined s t x f = KeepsScopes s t (gatesOf s) (insert (functionsOf s) x f)
+
 -- a function as it is found: the number of its parameters in place of their types
 abbrev pub briefOf : Option FunctionSig → FoundFunction
 briefOf none = FoundFunction.None
@@ -37,9 +51,13 @@ abbrev pub paramsOf : Option FunctionSig → List ClassicalType
 paramsOf none = []
 paramsOf (some f) = f .params
 
--- no function has more than 16 parameters: so it is in a cleared scratch, and after each definition from a tree
+-- an entry has room for so many types
+abbrev pub mostParams : ℕ
+mostParams = 16
+
+-- no function has more parameters: so it is in a cleared scratch, and after each definition from a tree
 pub record FewParams (t : Table FunctionSig) : Type 0 where
-  pub few : (x : ℕ) → length (paramsOf (t x)) ≤ 16
+  pub few : (x : ℕ) → length (paramsOf (t x)) ≤ mostParams
 
 -- the function that stands in the tree with so many parameters from a place on
 abbrev pub functionIn : List ℕ → ℕ → ℕ → ClassicalType → Span → FunctionSig

@@ -11,19 +11,19 @@ use context::Symbol;
 use context::SymbolKind;
 use span::Span;
 ghost use mathlib.Core.Path.{_≡_};
-ghost use Prim.Native.Nat.{suc, _+_, _-_, _*_, _^_, _≤_, _<_};
-ghost use mathlib.Core.List.{[], _∷_};
+ghost use Prim.Native.Nat.{_+_, _-_, _*_, _^_, _≤_, _<_};
+ghost use mathlib.Core.List.{[]};
 ghost use lib.ListN.{length, getD, set};
 ghost use lib.Seq.{sets};
 ghost use Rattle.types.specs.Types.{numberOf};
 ghost use Rattle.tree.specs.Encode.{big};
 ghost use Rattle.tree.specs.Fits.{NumberFits, SpanFits, OptionFits};
 ghost use Rattle.sema.specs.Messages.{Qubit};
-ghost use Rattle.sema.specs.Symbols.{empty, insert, get, getCurrent, insertCurrent};
+ghost use Rattle.sema.specs.Symbols.{get, getCurrent};
 ghost use Rattle.context.specs.Values.{kindOf, numberOf as sizeOf, symbolOf, foundOf, gateOf, foundGateOf};
-ghost use Rattle.context.specs.View.{numberAt, spanAt, typeOf, kinds, sizeBy, symbolAt, symbolSize, levelSize, scopesOf, gatesOf, functionsOf};
-ghost use Rattle.tables.specs.Entries.{SymbolFits, codeOf, spanBytes, sizeBytes, symbolBytes, gateBytes, typeBytes, functionBytes, emptied};
-ghost use Rattle.tables.specs.Tables.{Becomes, KeepsScopes, briefOf, paramsOf, FewParams, functionIn, cleared};
+ghost use Rattle.context.specs.View.{numberAt, spanAt, typeOf, kinds, sizeBy, symbolAt, scopesOf, gatesOf, functionsOf};
+ghost use Rattle.tables.specs.Entries.{SymbolFits, codeOf, spanBytes, sizeBytes, symbolBytes, gateBytes, typeBytes, functionBytes};
+ghost use Rattle.tables.specs.Tables.{Inserted, Entered, GateDefined, FunctionDefined, briefOf, paramsOf, FewParams, functionIn, cleared};
 
 const SYMBOL: usize = 18;
 
@@ -233,6 +233,7 @@ pub fn get(scratch: &[u8], depth: usize, x: usize) -> FoundSymbol
     FoundSymbol::None
 }
 
+// The symbol of a name in the innermost scope.
 pub fn get_current(scratch: &[u8], depth: usize, x: usize) -> FoundSymbol
     requires { ⌜ (65536 ≤ length (now scratch)) × (0 < depth) × (depth ≤ 9) × (x < 256) ⌝ }
     ensures { λ r. ⌜ foundOf r ≡ getCurrent (scopesOf (now (scratch .entry)) depth) x ⌝ }
@@ -243,7 +244,7 @@ pub fn get_current(scratch: &[u8], depth: usize, x: usize) -> FoundSymbol
 // Gives a name a symbol in the innermost scope.
 pub fn insert(scratch: &mut [u8], depth: usize, x: usize, sym: Symbol)
     requires { ⌜ (65536 ≤ length (now scratch)) × (0 < depth) × (depth ≤ 9) × (x < 256) ⌝ }
-    ensures { λ _. ⌜ Becomes (now (scratch .entry)) (now (scratch .exit)) depth (insertCurrent (scopesOf (now (scratch .entry)) depth) x (symbolOf sym)) (gatesOf (now (scratch .entry))) (functionsOf (now (scratch .entry))) ⌝ }
+    ensures { λ _. ⌜ Inserted (now (scratch .entry)) (now (scratch .exit)) depth x (symbolOf sym) ⌝ }
 {
     store_symbol(scratch, (depth - 1) * LEVEL + x * SYMBOL, sym);
 }
@@ -251,7 +252,7 @@ pub fn insert(scratch: &mut [u8], depth: usize, x: usize, sym: Symbol)
 // An empty scope within the others. It is left by counting one less.
 pub fn enter(scratch: &mut [u8], depth: usize)
     requires { ⌜ (65536 ≤ length (now scratch)) × (depth < 9) ⌝ }
-    ensures { λ _. ⌜ Becomes (now (scratch .entry)) (now (scratch .exit)) (suc depth) (empty ∷ scopesOf (now (scratch .entry)) depth) (gatesOf (now (scratch .entry))) (functionsOf (now (scratch .entry))) ⌝ }
+    ensures { λ _. ⌜ Entered (now (scratch .entry)) (now (scratch .exit)) depth ⌝ }
 {
     let mut at = depth * LEVEL;
     let mut left: usize = 256;
@@ -291,9 +292,10 @@ fn store_gate(s: &mut [u8], at: usize, sig: GateSig)
     store_span(s, at + 3, decl_span);
 }
 
+// The counts are those of a Vec.
 pub fn define_gate(scratch: &mut [u8], x: usize, sig: GateSig)
     requires { ⌜ (65536 ≤ length (now scratch)) × (x < 256) × (sig .«param_count» < 256) × (sig .«qubit_count» < 256) ⌝ }
-    ensures { λ _. ⌜ KeepsScopes (now (scratch .entry)) (now (scratch .exit)) (insert (gatesOf (now (scratch .entry))) x (gateOf sig)) (functionsOf (now (scratch .entry))) ⌝ }
+    ensures { λ _. ⌜ GateDefined (now (scratch .entry)) (now (scratch .exit)) x (gateOf sig) ⌝ }
 {
     store_gate(scratch, GATES + x * GATE, sig);
 }
@@ -316,7 +318,7 @@ pub fn function(scratch: &[u8], x: usize) -> FoundFunction
     })
 }
 
-// The type of a function's parameter.
+// The type of a function's parameter; `function` says how many there are.
 pub fn param_type(scratch: &[u8], x: usize, i: usize) -> ClassicalType
     requires { ⌜ (65536 ≤ length (now scratch)) × (x < 256) × (i < length (paramsOf (functionsOf (now scratch) x))) ⌝ }
     ensures { λ r. ⌜ r ≡ getD (paramsOf (functionsOf (now (scratch .entry)) x)) i ClassicalType.Int ⌝ }
@@ -346,7 +348,8 @@ fn store_function(s: &mut [u8], at: usize, ty: ClassicalType, sp: Span, count: u
     store_span(s, at + 3, sp);
 }
 
-// Its parameters stand in the tree from `at` on: a type byte and a text number of two bytes each.
+// Its parameters stand in the tree from `at` on: a type byte and a text number of two bytes each. The walk has read them, and defines
+// functions by this alone, so none has more than 16.
 pub fn define_function(
     scratch: &mut [u8],
     tree: &[u8],
@@ -357,13 +360,14 @@ pub fn define_function(
     decl_span: Span,
 )
     requires { ⌜ (65536 ≤ length (now scratch)) × (x < 256) × (count ≤ 16) × (at + 3 * count ≤ length (now tree)) × FewParams (functionsOf (now scratch)) ⌝ }
-    ensures { λ _. ⌜ KeepsScopes (now (scratch .entry)) (now (scratch .exit)) (gatesOf (now (scratch .entry))) (insert (functionsOf (now (scratch .entry))) x (functionIn (now (tree .entry)) at count «return_type» «decl_span»)) ⌝ }
+    ensures { λ _. ⌜ FunctionDefined (now (scratch .entry)) (now (scratch .exit)) x (functionIn (now (tree .entry)) at count «return_type» «decl_span») ⌝ }
 {
     let entry = FUNCTIONS + x * FUNCTION;
     store_function(scratch, entry, return_type, decl_span, count);
     store_types(scratch, entry + 11, tree, at, count);
 }
 
+// Before a walk, and after it.
 pub fn clear(scratch: &mut [u8])
     requires { ⌜ 65536 ≤ length (now scratch) ⌝ }
     ensures { λ _. ⌜ now (scratch .exit) ≡ cleared (now (scratch .entry)) ⌝ }

@@ -5,7 +5,7 @@ use lib.ListN.{length}
 use lib.Dec.{leb}
 use Rattle.ast.specs.Tree.{Text, Program}
 use Rattle.tree.specs.Limits.{fileLimit, stmtLevels}
-use Rattle.tree.specs.Ans.{Ans, ok, refused, Reader, _>>=_, _>>_, done, here, check}
+use Rattle.tree.specs.Ans.{Ans, ok, Reader, _>>=_, _>>_, done, here, check, given}
 use Rattle.tree.specs.Texts.{texts}
 use Rattle.tree.specs.Stmts.{body, stmt}
 
@@ -33,9 +33,5 @@ unfoldable pub decode : List ℕ → Ans Program
 decode s = file s 0
 
 -- the texts of a file; none where they are refused
-unfoldable pub textsIn : Ans (List Text) → List Text
-textsIn (ok t next) = t
-textsIn (refused number place) = []
-
 unfoldable pub textsOf : List ℕ → List Text
-textsOf s = textsIn (texts s 0)
+textsOf s = given [] (λ t. t) (texts s 0)

@@ -1,7 +1,6 @@
 -- `tables::store` meets its contract. Assumes nothing.
 use native.Mathlib.Omega.{arith}
 use borrow.Author.Needs.{needs}
-use lib.ListN.{length-set}
 use Rattle.tables.proofs.Bytes.{Storing, storing-start, storing-more, storing-end}
 use Rattle.tables.proofs.store.Statement.{statement}
 use Rattle.tables.proofs.store.Tie as tie

@@ -1,13 +1,16 @@
+-- These functions call each other and meet their contracts. Assumes nothing.
 use Prim.Native.Nat.{ℕ, _<_, _+_, _*_}
-use mathlib.Core.Path.{_≡_}
+use mathlib.Core.Path.{_≡_, sym}
 use Rattle.ast.specs.Tree.{noExpr, moreExpr}
 use Rattle.tree.specs.Ans.{nextOf}
 use Rattle.tree.specs.Exprs.{expr, exprs}
 use Rattle.tree.specs.Decode.{textsOf}
+use Rattle.accepted.specs.Parts.{next-is}
 use Rattle.accepted.specs.Fields.{counted-in}
-use Rattle.accepted.specs.Exprs.{args-first, expr-in, expr-left, intLit-inside, floatLit-inside, boolLit-inside, ident-inside, index-inside, call-args, call-inside, const-inside, neg-inner, neg-inside}
-use Rattle.accepted.proofs.SkipExprs.{skip-laws, pair-code, pair-lhs, pair-rhs, pair-inside, pair-next}
 use Rattle.accepted.specs.Remains.{Remains, remains-start, remains-more, remains-end}
+use Rattle.accepted.specs.Exprs.{expr-in, expr-left, args-first, intLit-inside, intLit-is, floatLit-inside, floatLit-is, boolLit-inside, boolLit-is, ident-inside, ident-is, index-inside, index-is, call-args, call-inside, call-is, const-inside, const-is, neg-inner, neg-inside, neg-is}
+use Rattle.accepted.proofs.Unlike.{unlike}
+use Rattle.accepted.proofs.SkipExprs.{pair-lhs, pair-rhs, pair-inside, pair-next}
 use native.Mathlib.Omega.{arith}
 use borrow.Author.Needs.{needs}
 use borrow.Fn.Kinds.{In, Out}
@@ -52,12 +55,15 @@ module _ (t : ℕ) where
   skip-expr-asks Need = Need skip-expr-calls skip-expr-at skip-expr.Post
 
   skip-expr-add-result-9 : skip-expr-asks skip-expr-lts.Need-add-result-9
-  skip-expr-add-result-9 c = let i = pair-inside _ _ _ _ (c .before .before .before .before .before .pre .1) (search pair-code) _ (c .before .skip-expr2 .ensures) _ (c .skip-expr3 .ensures) in omega arith
+  skip-expr-add-result-9 c = let i = pair-inside _ _ _ _ (c .before .before .before .before .before .pre .1) (unlike 8 _ (c .before .before .match .rest)) _ (c .before .skip-expr2 .ensures) _ (c .skip-expr3 .ensures) in omega arith
+
+  skip-expr-returns-9 : skip-expr-asks skip-expr-lts.Need-returns-9
+  skip-expr-returns-9 c = pair-next _ _ _ _ (c .before .before .before .before .before .pre .1) (unlike 8 _ (c .before .before .match .rest)) _ (c .before .skip-expr2 .ensures) _ (c .skip-expr3 .ensures)
 
   skip-expr-closed : {M : Type 1} → skip-expr-lts.Closed skip-expr-calls skip-expr-at skip-expr.Post M
   skip-expr-closed =
       skip-expr-lts.spec skip-expr-calls skip-expr-at skip-expr.Post
-      (λ c. search expr-in)  -- shared-slice-read-match: match s[at] {
+      (λ c. expr-in _ _ _ _ (c .before .before .pre .1))  -- shared-slice-read-match: match s[at] {
       (λ c. let i = intLit-inside _ _ _ _ (c .before .before .before .pre .1) (c .match .keys1) in omega arith)  -- add-result: 0 => at + 17,
       (λ c. let i = floatLit-inside _ _ _ _ (c .before .before .before .pre .1) (c .match .keys2) in omega arith)  -- add-result-2: 1 => at + 11,
       (λ c. let i = boolLit-inside _ _ _ _ (c .before .before .before .pre .1) (c .match .keys3) in omega arith)  -- add-result-3: 2 => at + 10,
@@ -65,28 +71,28 @@ module _ (t : ℕ) where
       (λ c. let i = index-inside _ _ _ _ (c .before .before .before .pre .1) (c .match .keys5) in omega arith)  -- add-result-5: 4 => at + 19,
       (λ c. omega (arith, expr-in))  -- add-skip-exprs: 5 => skip_exprs(s, at + 3, left - 1) + 8,
       (λ c. omega (arith, expr-left))  -- sub-skip-exprs
-      (λ c κs. (omega (arith, expr-left), search call-args))  -- skip-exprs-requires
+      (λ c κs. (omega (arith, expr-left), call-args _ _ _ _ (c .before .before .before .pre .1) (c .match .keys6)))  -- skip-exprs-requires
       (λ c. let i = call-inside _ _ _ _ (c .before .before .before .before .pre .1) (c .before .match .keys6) _ (c .skip-exprs .ensures) in omega arith)  -- add-result-6
       (λ c. let i = const-inside _ _ _ _ (c .before .before .before .pre .1) (c .match .keys7) in omega arith)  -- add-result-7: 6 => at + 10,
       (λ c. omega (arith, expr-in))  -- add-skip-expr: 7 => skip_expr(s, at + 1, left - 1) + 8,
       (λ c. omega (arith, expr-left))  -- sub-skip-expr
-      (λ c κs. (omega (arith, expr-left), search neg-inner))  -- skip-expr-requires
+      (λ c κs. (omega (arith, expr-left), neg-inner _ _ _ _ (c .before .before .before .pre .1) (c .match .keys8)))  -- skip-expr-requires
       (λ c. let i = neg-inside _ _ _ _ (c .before .before .before .before .pre .1) (c .before .match .keys8) _ (c .skip-expr .ensures) in omega arith)  -- add-result-8
       (λ c. omega (arith, expr-in))  -- add-skip-expr-2: let k = skip_expr(s, at + 2, left - 1);
       (λ c. omega (arith, expr-left))  -- sub-skip-expr-2
-      (λ c κs. (omega (arith, expr-left), pair-lhs _ _ _ _ (c .before .before .before .pre .1) (search pair-code)))  -- skip-expr-requires-2
+      (λ c κs. (omega (arith, expr-left), pair-lhs _ _ _ _ (c .before .before .before .pre .1) (unlike 8 _ (c .match .rest))))  -- skip-expr-requires-2
       (λ c. omega (arith, expr-left))  -- sub-skip-expr-3: skip_expr(s, k, left - 1) + 8
-      (λ c κs. (omega (arith, expr-left), pair-rhs _ _ _ _ (c .before .before .before .before .pre .1) (search pair-code) _ (c .skip-expr2 .ensures)))  -- skip-expr-requires-3
+      (λ c κs. (omega (arith, expr-left), pair-rhs _ _ _ _ (c .before .before .before .before .pre .1) (unlike 8 _ (c .before .match .rest)) _ (c .skip-expr2 .ensures)))  -- skip-expr-requires-3
       skip-expr-add-result-9
-      (λ c. search skip-laws)  -- returns: pub fn skip_expr(s: &[u8], at: usize, left: usize) -> usize
-      (λ c. search skip-laws)  -- returns-2
-      (λ c. search skip-laws)  -- returns-3
-      (λ c. search skip-laws)  -- returns-4
-      (λ c. search skip-laws)  -- returns-5
-      (λ c. search skip-laws)  -- returns-6
-      (λ c. search skip-laws)  -- returns-7
-      (λ c. search skip-laws)  -- returns-8
-      (λ c. pair-next _ _ _ _ (c .before .before .before .before .before .pre .1) (search pair-code) _ (c .before .skip-expr2 .ensures) _ (c .skip-expr3 .ensures))  -- returns-9
+      (λ c. sym (next-is (intLit-is _ _ _ _ (c .before .before .before .pre .1) (c .match .keys1))))  -- returns: pub fn skip_expr(s: &[u8], at: usize, left: usize) -> usize
+      (λ c. sym (next-is (floatLit-is _ _ _ _ (c .before .before .before .pre .1) (c .match .keys2))))  -- returns-2
+      (λ c. sym (next-is (boolLit-is _ _ _ _ (c .before .before .before .pre .1) (c .match .keys3))))  -- returns-3
+      (λ c. sym (next-is (ident-is _ _ _ _ (c .before .before .before .pre .1) (c .match .keys4))))  -- returns-4
+      (λ c. sym (next-is (index-is _ _ _ _ (c .before .before .before .pre .1) (c .match .keys5))))  -- returns-5
+      (λ c. sym (next-is (call-is _ _ _ _ (c .before .before .before .before .pre .1) (c .before .match .keys6) _ (c .skip-exprs .ensures))))  -- returns-6
+      (λ c. sym (next-is (const-is _ _ _ _ (c .before .before .before .pre .1) (c .match .keys7))))  -- returns-7
+      (λ c. sym (next-is (neg-is _ _ _ _ (c .before .before .before .before .pre .1) (c .before .match .keys8) _ (c .skip-expr .ensures))))  -- returns-8
+      skip-expr-returns-9
 
   abbrev skip-exprs-calls : skip-exprs-lts.Claims
   skip-exprs-calls = (fns.numbers.wide.Reads.Asked, fns.numbers.wide.Reads.Learnt, skip-expr-below, skip-expr.Post)
@@ -94,7 +100,7 @@ module _ (t : ℕ) where
   skip-exprs-closed : {M : Type 1} → skip-exprs-lts.Closed skip-exprs-calls skip-exprs-at skip-exprs.Post M
   skip-exprs-closed =
       skip-exprs-lts.spec skip-exprs-calls skip-exprs-at skip-exprs.Post skip-exprs-Inv-loop skip-exprs-μ-loop
-      (λ c. search counted-in)  -- shared-slice-read-wide: let mut n = wide(s[at]);
+      (λ c. counted-in _ _ _ _ _ (c .before .before .pre .1))  -- shared-slice-read-wide: let mut n = wide(s[at]);
       (λ c κs. search needs)  -- wide-requires
       (λ c. let i = counted-in _ _ _ _ _ (c .before .before .before .pre .1) in omega arith)  -- add-k: let mut k = at + 1;
       (λ c. remains-start _ _ _ _ _ _ (c .before .before .before .pre .1) (c .wide .ensures .0))  -- loop-holds: while 0 < n {

@@ -1,6 +1,5 @@
 -- `accepted::exprs::skip_option_expr` meets its contract. Assumes nothing.
 use native.Mathlib.Omega.{arith}
-use borrow.Author.Needs.{needs}
 use Rattle.accepted.specs.Fields.{option-in, option-held, option-none-next, option-some-next}
 use Rattle.accepted.proofs.exprs.skip_option_expr.Statement.{statement}
 use Rattle.accepted.proofs.exprs.skip_option_expr.Tie as tie
