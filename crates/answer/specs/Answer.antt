@@ -1,6 +1,6 @@
 -- What a call on a tree, a scratch buffer and a listing buffer answers, and what the buffers hold afterwards.
-use Prim.Native.Nat.{ℕ, zero, suc}
-use mathlib.Core.List.{List, [], _∷_, _++_}
+use Prim.Native.Nat.{ℕ}
+use mathlib.Core.List.{List, [], _++_}
 use mathlib.Core.Bool.{Bool, true, false}
 use lib.ListN.{length, drop, replicate}
 use lib.Dec.{ltb}
@@ -48,7 +48,7 @@ judgeFile room (ok p next) = judgeProgram room p
 unfoldable pub answer : List ℕ → ℕ → ℕ → Answer
 answer tree scratch room = elim (ltb scratch scratchSize) [ true ↦ refusal 1 0 | false ↦ judgeFile room (decode tree) ]
 
--- the listing of an accepted file
+-- the listing of a file that can be read
 unfoldable pub listingFile : Ans Program → List ℕ
 listingFile (refused number place) = []
 listingFile (ok p next) = listingOf (p .texts) (analyze p)

@@ -60,6 +60,13 @@ slice-1-0-marks-nothing = record {
   listing = lines ("list 1 0" ∷ "E 0 0 slice 1:0 is out of bounds for `q` (size 2)" ∷ "N 0 9 `q` declared with size 2 here" ∷ []);
 }
 
+unfoldable pub slice-1-0-is-covered-by-none : Edge
+slice-1-0-is-covered-by-none = record {
+  tree = file (qubit (some 2) 0 ∷ measure whole 1 ∷ h (slice 1 0) 2 ∷ []);
+  answers = accepted 1 0 95;
+  listing = lines ("list 1 0" ∷ "E 0 0 slice 1:0 is out of bounds for `q` (size 2)" ∷ "N 0 9 `q` declared with size 2 here" ∷ []);
+}
+
 unfoldable pub measure-of-size-0 : Edge
 measure-of-size-0 = record {
   tree = file (qubit (some 0) 0 ∷ measure whole 1 ∷ h whole 2 ∷ []);
@@ -111,8 +118,8 @@ power-has-none = record {
       (qubit (some 3) 0
       ∷ controlled (op BinOp.Div (op BinOp.Pow (int 2) (int 127)) (op BinOp.Pow (int 2) (int 126))) (index 0 ∷ []) 1
       ∷ []);
-  answers = accepted 1 0 71;
-  listing = lines ("list 1 0" ∷ "E 10 19 control count must be a positive compile-time integer" ∷ []);
+  answers = accepted 1 0 69;
+  listing = lines ("list 1 0" ∷ "E 1 2 control count must be a positive compile-time integer" ∷ []);
 }
 
 -- -7/2 + 4 is 1
@@ -130,8 +137,8 @@ quotient-towards-zero = record {
 unfoldable pub control-count-0 : Edge
 control-count-0 = record {
   tree = file (qubit (some 2) 0 ∷ controlled (int 0) (index 0 ∷ []) 1 ∷ []);
-  answers = accepted 1 0 71;
-  listing = lines ("list 1 0" ∷ "E 10 19 control count must be a positive compile-time integer" ∷ []);
+  answers = accepted 1 0 69;
+  listing = lines ("list 1 0" ∷ "E 1 2 control count must be a positive compile-time integer" ∷ []);
 }
 
 -- the example under "The listing"

@@ -5,7 +5,7 @@ use mathlib.Core.Option.{Option, none, some}
 use mathlib.Core.Bool.{true}
 use Rattle.span.specs.declared.Span.{Span}
 use Rattle.ast.specs.declared.BinOp.{BinOp}
-use Rattle.ast.specs.Tree.{TextNumber, Expr, noExpr, GateOperand, GateModifier, Stmt, Stmts, noStmt, moreStmt, noElse, someElse}
+use Rattle.ast.specs.Tree.{Expr, noExpr, GateOperand, GateModifier, Stmt, Stmts, noStmt, moreStmt, noElse, someElse}
 
 abbrev pub span : ℕ → ℕ → Span
 span a b = record { start = a; end = b }
@@ -65,6 +65,6 @@ minus e = Expr.Neg e (span 0 0)
 abbrev pub op : BinOp → Expr → Expr → Expr
 op o l r = Expr.BinOp o l r (span 0 0)
 
--- `ctrl(count) @ x` on some operands
+-- `ctrl(count) @ x` on some operands; the modifier has a span of its own
 abbrev pub controlled : Expr → List GateOperand → ℕ → Stmt
-controlled count args k = Stmt.GateCall 0 2 (GateModifier.Ctrl (some count) (nth k) ∷ []) noExpr args (nth k)
+controlled count args k = Stmt.GateCall 0 2 (GateModifier.Ctrl (some count) (span 1 2) ∷ []) noExpr args (nth k)

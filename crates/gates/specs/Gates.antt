@@ -61,6 +61,7 @@ unfoldable pub lookup : List ℕ → List Gate → Signature
 lookup n [] = None
 lookup n (g ∷ gs) = cond (same n (g .name)) (Standard (g .params) (g .qubits)) (lookup n gs)
 
+-- of a name whose letters are lowered
 unfoldable pub signatureOf : List ℕ → Signature
 signatureOf n = lookup n gates
 

@@ -20,7 +20,7 @@ unfoldable pub cut : List ℕ → List ℕ → List (List ℕ)
 cut [] w = []
 cut (x ∷ s) w = cutAt (ℕ-discrete x 10) w (cut s)
 
--- the lines of a text
+-- the lines of a text, each ended by byte 10
 abbrev pub linesOf : List ℕ → List (List ℕ)
 linesOf s = cut s []
 

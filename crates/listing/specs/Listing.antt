@@ -1,6 +1,6 @@
 -- "First line: `list`, errors, warnings. Then for each diagnostic a line: E or W, span start, span end, message; with a note, a line N,
 -- its span, its text. One space between fields, byte 10 after each line."
-use Prim.Native.Nat.{ℕ, zero, suc}
+use Prim.Native.Nat.{ℕ, suc}
 use mathlib.Core.List.{List, [], _∷_, _++_}
 use mathlib.Core.Option.{Option, none, some}
 use Rattle.text.specs.Text.{text}

@@ -76,7 +76,7 @@ smallest-index = record { program = qubit (some 4) 0 ∷ measure (index 2) 1 ∷
 
 -- `const` names have no constant value
 const-has-no-value : Row
-const-has-no-value = record { program = Stmt.ClassicalDecl 0 (some ClassicalQualifier.Const) ClassicalType.Int 1 (some (int 1)) (nth 0) ∷ qubit (some 2) 1 ∷ controlled (Expr.Ident 1 (span 0 0)) (index 0 ∷ []) 2 ∷ []; said = error Messages.controlCount (nth 2) ∷ [] }
+const-has-no-value = record { program = Stmt.ClassicalDecl 0 (some ClassicalQualifier.Const) ClassicalType.Int 1 (some (int 1)) (nth 0) ∷ qubit (some 2) 1 ∷ controlled (Expr.Ident 1 (span 0 0)) (index 0 ∷ []) 2 ∷ []; said = error Messages.controlCount (span 1 2) ∷ [] }
 
 -- int does not take uint
 int-refuses-uint : Row

@@ -1,9 +1,9 @@
 -- Types of expressions, as `check_expr`, `require_type` and `check_modifiers` of src/sema.rs.
-use Prim.Native.Nat.{ℕ, zero, suc, _+_}
+use Prim.Native.Nat.{ℕ, suc}
 use mathlib.Core.List.{List, [], _∷_, _++_}
 use mathlib.Core.Option.{Option, none, some}
-use mathlib.Core.Bool.{Bool, true, false, cond, _&&_, _||_, not}
-use lib.ListN.{length, getD}
+use mathlib.Core.Bool.{Bool, true, false, cond, _&&_, _||_}
+use lib.ListN.{length}
 use lib.Dec.{eqb, ltb}
 use Rattle.span.specs.declared.Span.{Span}
 use Rattle.ast.specs.Tree.{TextNumber, Expr, Exprs, noExpr, moreExpr, GateModifier}
@@ -14,7 +14,7 @@ use Rattle.sema.specs.Messages.{SymbolKind, Qubit, Bit, Classical, Const
 use Rattle.sema.specs.Symbols.{Symbols, Symbol, FunctionSig, Table, get}
 use Rattle.int128.specs.Whole.{positive}
 use Rattle.sema.specs.Constants.{evalConstInt}
-use Rattle.sema.specs.Operands.{unless, isSome}
+use Rattle.sema.specs.Operands.{unless}
 
 -- what an expression is found to be, and what is said of it
 pub record Typing : Type 0 where
@@ -76,7 +76,7 @@ compareType sp (some l) none = untyped []
 compareType sp (some l) (some r) =
     cond (eqb (numberOf l) (numberOf r) || (numeric l && numeric r)) (typed ClassicalType.Bool) (untyped (error Messages.comparisonTypes sp ∷ []))
 
--- a value of the actual type, if it has one, where the expected type stands
+-- what d says of the actual type, where the expected type does not take it; nothing where there is no type
 unfoldable pub mismatch : (ClassicalType → Diagnostic) → ClassicalType → Option ClassicalType → List Diagnostic
 mismatch d expected none = []
 mismatch d expected (some actual) = unless (assignableTo expected actual) (d actual)

@@ -5,7 +5,7 @@ use mathlib.Core.List.{List, [], _∷_, _++_}
 use mathlib.Core.Option.{Option, none, some}
 use mathlib.Core.Bool.{Bool, true, false, _&&_, _||_}
 use lib.Dec.{eqb}
-use Rattle.ast.specs.Tree.{TextNumber, GateOperand, Stmt, Stmts, noStmt, moreStmt, Else, noElse, someElse, Program}
+use Rattle.ast.specs.Tree.{TextNumber, Stmt, Stmts, noStmt, moreStmt, Else, noElse, someElse, Program}
 use Rattle.sema.specs.Limits.{keyLimit}
 use Rattle.sema.specs.Symbols.{Symbols, empty, get, after, gateScope, loopScope}
 use Rattle.sema.specs.Marks.{Key, key, sizeOf}

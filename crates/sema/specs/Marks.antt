@@ -1,6 +1,5 @@
 -- Marks of measurement, as `measured` of `SemaContext` in src/sema.rs: which keys are marked, and with which span.
 use Prim.Native.Nat.{ℕ, zero, suc, _-_}
-use mathlib.Core.List.{List, [], _∷_}
 use mathlib.Core.Option.{Option, none, some}
 use mathlib.Core.Bool.{Bool, true, false, cond, _&&_}
 use lib.Dec.{eqb, leb, ltb}

@@ -1,5 +1,5 @@
 -- Checks of operands, as `check_operand`, `operand_width` and `check_use_after_measure` of src/sema.rs. Each gives what it says.
-use Prim.Native.Nat.{ℕ, suc, _+_, _-_}
+use Prim.Native.Nat.{ℕ, suc, _-_}
 use mathlib.Core.List.{List, [], _∷_, _++_}
 use mathlib.Core.Option.{Option, none, some}
 use mathlib.Core.Bool.{Bool, true, false, cond, _&&_, _||_}
@@ -8,7 +8,7 @@ use Rattle.span.specs.declared.Span.{Span}
 use Rattle.ast.specs.Tree.{TextNumber, GateOperand}
 use Rattle.sema.specs.Messages
 use Rattle.sema.specs.Messages.{SymbolKind, Qubit, Bit, Classical, Const, GateParam, GateQubit, Expected, aQubit, aBit, Diagnostic, error, errorWithNote}
-use Rattle.sema.specs.Symbols.{Symbols, Symbol, get, orElse}
+use Rattle.sema.specs.Symbols.{Symbols, Symbol, get}
 use Rattle.sema.specs.Marks.{Marks, lookupMeasured, smallestCovered}
 
 -- what goes for a qubit, and for a bit
@@ -57,7 +57,7 @@ sliceSays op sym (some r) (some n) =
     unless (leb (r .0) (r .1) && ltb (r .1) n)
     (errorWithNote (Messages.sliceOutOfBounds (r .0) (r .1) (op .name) n) (op .span) (Messages.declaredWithSize (op .name) n) (sym .decl-span))
 
--- gate qubits should not be indexed
+-- a gate qubit must not be indexed; else the bounds of index and slice
 unfoldable pub boundsSay : GateOperand → Symbol → List Diagnostic
 boundsSay op sym =
     cond (isGateQubit (sym .kind) && (isSome (op .index) || isSome (op .slice)))
@@ -88,7 +88,7 @@ widthBy (some n) none none = some n
 unfoldable pub operandWidth : Symbols → GateOperand → Option ℕ
 operandWidth ss op = elim (get ss (op .name)) [ none ↦ none | some sym ↦ widthBy (sym .size) (op .slice) (op .index) ]
 
--- `check_use_after_measure`: by the slice where there is one, else by the index
+-- what is said of a use that a mark covers
 unfoldable pub usedSays : GateOperand → Span → Option Span → List Diagnostic
 usedSays op sp none = []
 usedSays op sp (some at) = errorWithNote (Messages.used op) sp Messages.measuredHere at ∷ []
@@ -97,6 +97,7 @@ unfoldable pub usedIndexSays : TextNumber → Span → Option (ℕ × Span) → 
 usedIndexSays x sp none = []
 usedIndexSays x sp (some c) = errorWithNote (Messages.usedIndex x (c .0)) sp Messages.measuredHere (c .1) ∷ []
 
+-- `check_use_after_measure`: by the slice where there is one, else by the index
 unfoldable pub useBy : Marks → GateOperand → Span → Option (ℕ × ℕ) → List Diagnostic
 useBy m op sp none = usedSays op sp (lookupMeasured m (op .name) (op .index))
 useBy m op sp (some r) = usedIndexSays (op .name) sp (smallestCovered m (op .name) r)

@@ -1,6 +1,6 @@
 -- The analysis of statements, as `analyze_stmt`, `analyze_stmts` and `analyze` of src/sema.rs, over the program's texts `t`.
 -- A statement gives the context after it and what is said of it.
-use Prim.Native.Nat.{ℕ, zero, suc, _+_}
+use Prim.Native.Nat.{ℕ, _+_}
 use mathlib.Core.List.{List, [], _∷_, _++_, map}
 use mathlib.Core.Option.{Option, none, some}
 use mathlib.Core.Bool.{Bool, true, false, cond, _&&_, _||_, not}
@@ -16,7 +16,7 @@ use Rattle.gates.specs.Gates.{lower, signatureOf}
 use Rattle.gates.specs.declared.Signature.{Signature}
 use Rattle.sema.specs.Messages
 use Rattle.sema.specs.Messages.{SymbolKind, Qubit, Bit, Classical, Const, GateParam, GateQubit, aQubit, aBit, Diagnostic, error, errorWithNote, warning}
-use Rattle.sema.specs.Symbols.{Symbols, Scope, Symbol, GateSig, FunctionSig, Table, empty, insert, get, declareSays, declKind, after, gateScope, functionScope, loopScope}
+use Rattle.sema.specs.Symbols.{Symbols, Scope, GateSig, FunctionSig, Table, empty, insert, get, declareSays, after, gateScope, functionScope, loopScope}
 use Rattle.sema.specs.Marks.{Marks, noMarks, effect, apply, unite, afterLoop, lookupMeasured}
 use Rattle.sema.specs.Constants.{controls}
 use Rattle.sema.specs.Operands.{isSome, unless, checkOperand, operandWidth, useOperands}

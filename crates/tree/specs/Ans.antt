@@ -43,7 +43,7 @@ unfoldable pub IsOk : {A : Type 0} → Ans A → Type 0
 IsOk (ok a next) = Unit {0}
 IsOk (refused number place) = ⊥
 
--- the place past the value
+-- the place past the value; 0 where there is none
 unfoldable pub nextOf : {A : Type 0} → Ans A → ℕ
 nextOf (ok a next) = next
 nextOf (refused number place) = 0

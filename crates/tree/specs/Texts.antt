@@ -76,7 +76,7 @@ unfoldable pub isName : Text → Bool
 isName [] = false
 isName (c ∷ cs) = letter c && every (λ d. letter d || digit d) cs
 
--- after a digit: more digits, or the point and one or more digits
+-- after a digit: more digits or none, then the point, then one or more digits
 unfoldable pub fraction : Text → Bool
 fraction [] = false
 fraction (c ∷ cs) = (digit c && fraction cs) || (eqb c 46 && digits cs)

@@ -1,0 +1,4 @@
+pub mod Whole
+pub mod Counts
+pub mod Eval
+pub mod Modifiers

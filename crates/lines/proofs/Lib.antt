@@ -1,0 +1,9 @@
+pub mod Sums
+pub mod Digits
+pub mod Sink
+pub mod Words
+pub mod Parts
+pub mod Numbers
+pub mod Messages
+pub mod Arms
+pub mod Lines

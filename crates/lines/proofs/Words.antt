@@ -1,0 +1,88 @@
+-- The wording's phrases stand where the table says, and are short. Assumes nothing.
+use Prim.Native.Nat.{ℕ, zero, suc, _<_, _≤_, _+_, _-_, _*_}
+use mathlib.Core.Path.{_≡_, refl, sym, ap, _∙_}
+use mathlib.Core.Bool.{Bool, true, false}
+use mathlib.Core.List.{List, [], _∷_, _++_, append-assoc}
+use mathlib.Core.Logic.{_⊎_, inl, inr, ⊎-elim}
+use native.Mathlib.Omega.{arith}
+use native.Mathlib.Numerals.{add-one}
+use lib.ListN.{length, getD, take, drop, length-append, List·getD-eq-default}
+use lib.Seq.{drop-append-seam, take-append-seam, getD-take}
+use lib.Dec.{T, leb, leb→le}
+use Rattle.text.specs.Text.{concat, part, same}
+use Rattle.text.proofs.Table.{every, at}
+use Rattle.text.proofs.Same.{same-eq}
+use Rattle.text.proofs.Clamp.{split}
+use Rattle.lines.specs.Plans.{phrases, allWords, phrase, wordAt}
+
+-- where each of some texts starts, one after the other from n on, and where the last one ends
+abbrev starts : ℕ → List (List ℕ) → List ℕ
+starts n [] = n ∷ []
+starts n (x ∷ xs) = n ∷ starts (n + length x) xs
+
+starts-first : (n : ℕ) (xs : List (List ℕ)) → getD (starts n xs) 0 0 ≡ n
+starts-first n [] = refl
+starts-first n (x ∷ xs) = refl
+
+over-first : (n m : ℕ) → n + m - n ≡ m
+over-first n m = omega arith
+
+-- each text stands between its start and the next
+between : (xs : List (List ℕ)) (pre : List ℕ) (k : ℕ) → k < length xs → part (getD (starts (length pre) xs) k 0) (getD (starts (length pre) xs) (suc k) 0) (pre ++ concat xs) ≡ getD xs k []
+between [] pre k h = absurd (omega arith)
+between (x ∷ xs) pre zero h =
+    rw (starts-first (length pre + length x) xs, over-first (length pre) (length x), drop-append-seam pre (x ++ concat xs)) (take-append-seam x (concat xs))
+between (x ∷ xs) pre (suc k) h = rw (length-append pre x, append-assoc pre x (concat xs)) at (between xs (pre ++ x) k (omega arith))
+
+unfoldable pub phrasePlaces : List ℕ
+phrasePlaces = starts 0 phrases
+
+phrase-count : length phrases ≡ 112
+unfolding phrases
+phrase-count = refl
+
+pub phrase-part : (w : List ℕ) (n : ℕ) → w ≡ allWords → n < 112 → part (getD phrasePlaces n 0) (getD phrasePlaces (n + 1) 0) w ≡ phrase n
+unfolding phrasePlaces allWords phrase
+phrase-part w n e h = rw (e, add-one n) (between phrases [] n (omega (arith, phrase-count)))
+
+pub phrase-none : (n : ℕ) → 112 ≤ n → [] ≡ phrase n
+unfolding phrase
+phrase-none n h = sym (List·getD-eq-default phrases [] (omega (arith, phrase-count)))
+
+-- the rule of a phrase: it is short
+isShort : ℕ → List ℕ → Bool
+isShort i x = leb (length x) 110
+
+all-short : T (every isShort 0 phrases)
+unfolding isShort phrases
+all-short = tt
+
+pub phrase-short : (n : ℕ) → length (phrase n) ≤ 110
+unfolding isShort phrase
+phrase-short n =
+    ⊎-elim
+    (λ (h : 112 ≤ n). omega (arith, ap length (phrase-none n h)))
+    (λ (h : n < 112). leb→le (length (getD phrases n [])) 110 (at isShort phrases [] all-short n (omega (arith, phrase-count))))
+    (split 112 n)
+
+true-of : (b : Bool) → T b → b ≡ true
+true-of true t = refl
+true-of false t = absurd t
+
+-- the rule of a digit's phrase
+isDigit : ℕ → List ℕ → Bool
+isDigit i x = same x ((48 + i) ∷ [])
+
+all-digits : T (every isDigit 0 (take 10 phrases))
+unfolding isDigit phrases
+all-digits = tt
+
+ten : length (take 10 phrases) ≡ 10
+unfolding phrases
+ten = refl
+
+pub digit-phrase : (x : ℕ) → x < 10 → phrase x ≡ (48 + x) ∷ []
+unfolding isDigit phrase
+digit-phrase x h =
+    sym (getD-take 10 phrases x [] h)
+    ∙ same-eq (getD (take 10 phrases) x []) ((48 + x) ∷ []) (true-of (isDigit x (getD (take 10 phrases) x [])) (at isDigit (take 10 phrases) [] all-digits x (omega (arith, ten))))

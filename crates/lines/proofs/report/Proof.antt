@@ -1,0 +1,20 @@
+-- `lines::report` meets its contract. Assumes nothing.
+use borrow.Author.Needs.{needs}
+use native.Mathlib.Omega.{arith}
+use Rattle.lines.proofs.Lines.{reported, report-past}
+use Rattle.lines.proofs.report.Statement.{statement}
+use Rattle.lines.proofs.report.Tie as tie
+
+returns-2 : tie.Need-returns-2
+returns-2 c = let s = c .before .before .before .before .before .before .before .before .before .before .before .before .before .before in reported (s .args .sink) _ (s .args .d) (s .pre .2) (omega arith) (c .before .before .before .before .before .before .before .message-line .ensures) (c .before .before .before .note-line .ensures) (c .counted .ensures)
+
+pub report-spec : {M : Type 1} → statement M
+report-spec =
+    tie.close (tie.spec
+    (λ c. search needs)  -- add-if1
+    (λ c. let s = c .before .before .before .before in report-past _ (s .args .d) (s .args .sink) _ (s .pre .2) (c .if1 .taken))  -- returns
+    (λ c κs. search needs)  -- message-line-requires
+    (λ c κs. search needs)  -- note-line-requires
+    (λ c κs. search needs)  -- counted-requires
+    (λ c. search needs)  -- same-length
+    returns-2)

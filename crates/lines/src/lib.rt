@@ -1,0 +1,241 @@
+// One diagnostic of the listing: its line, and its note's.
+mod pieces;
+mod plans;
+mod tables;
+
+use ast::ClassicalType;
+use context::GateOperand;
+use context::Sink;
+use context::SymbolKind;
+use span::Span;
+ghost use mathlib.Core.Path.{_≡_};
+ghost use Prim.Native.Nat.{_≤_, _<_, _+_};
+ghost use mathlib.Core.List.{_∷_, []};
+ghost use lib.ListN.{length};
+ghost use Rattle.text.specs.Text.{text};
+ghost use Rattle.text.specs.Decimal.{decimal};
+ghost use Rattle.sema.specs.Messages.{messageText};
+ghost use Rattle.tree.specs.Decode.{textsOf};
+ghost use Rattle.listing.specs.Listing.{ended, spaced, spanLine, letter, noteLines};
+ghost use Rattle.context.specs.Sink.{SinkFits};
+ghost use Rattle.context.specs.View.{TextsAt};
+ghost use Rattle.lines.specs.Values.{severityOf, messageOf, secondaryOf, nameIn, Below, NoteBelow, Fits, countedOf, Reported};
+ghost use Rattle.lines.specs.Stored.{Wrote, Said};
+ghost use Rattle.lines.specs.Plans.{Named, lineText};
+
+pub enum Severity {
+    Error,
+    Warning,
+}
+
+// What an operand is expected to be.
+pub enum Expected {
+    Qubit,
+    Bit,
+}
+
+// Where a type is required.
+pub enum Place {
+    IfCondition,
+    WhileCondition,
+    RangeBound,
+    RangeStep,
+    ControlArgument,
+}
+
+// The messages of the analysis, their fields in the order of the wording's definition.
+pub enum Message {
+    AlreadyDeclared(usize),
+    NotDeclared(usize),
+    ExpectedKind(Expected, usize, SymbolKind),
+    CannotIndexGateQubit(usize),
+    IndexOutOfBounds(u64, usize, u64),
+    CannotIndex(usize),
+    SliceOutOfBounds(u64, u64, usize, u64),
+    CannotSlice(usize),
+    UsedIndex(usize, u64),
+    Used(GateOperand),
+    ConstWithoutInit(usize),
+    InputWithInit(usize),
+    CannotInitialize(ClassicalType, usize, ClassicalType),
+    CannotAssign(ClassicalType, ClassicalType, usize),
+    CompoundNumeric,
+    AssignToConst(usize),
+    NotAssignable(usize),
+    GateParams(usize, u64, u64),
+    // The expected number is the sum of a control total and a number of qubits.
+    GateQubits(usize, u64, u64, u64),
+    GateNotDefined(usize),
+    ParamsNumeric,
+    Broadcasting,
+    GateAlreadyDefined(usize),
+    FunctionAlreadyDefined(usize),
+    FunctionReturns(usize, ClassicalType, ClassicalType),
+    MeasurementWidths(u64, u64),
+    AlreadyMeasured(GateOperand),
+    DelayNumeric,
+    ForVariable,
+    ControlCount,
+    PowerNumeric,
+    MustHaveType(Place, ClassicalType, ClassicalType),
+    NotClassical(usize),
+    CannotIndexBit(usize),
+    NotIndexable(usize),
+    FunctionNotDefined(usize),
+    FunctionArguments(usize, u64, u64),
+    ArgumentType(u64, usize, ClassicalType, ClassicalType),
+    NegationNumeric,
+    ArithmeticNumeric,
+    ComparisonTypes,
+}
+
+pub enum Note {
+    FirstDeclared(usize),
+    DeclaredAs(usize, SymbolKind),
+    DeclaredWithSize(usize, u64),
+    DeclaredWithoutSize(usize),
+    MeasuredHere,
+    DefinedHere(usize),
+    FirstDefined,
+    TargetDeclared,
+    FunctionDefined,
+}
+
+// An Option of a note and its span.
+pub enum Secondary {
+    Some(Note, Span),
+    None,
+}
+
+pub struct Diagnostic {
+    pub severity: Severity,
+    pub message: Message,
+    pub span: Span,
+    pub secondary: Secondary,
+}
+
+// How a text is made: the kind is a row of PLANS; the words are numbers of phrases.
+struct Plan {
+    kind: usize,
+    name: usize,
+    first: u64,
+    second: u64,
+    third: u64,
+    word: usize,
+    other: usize,
+}
+
+// A line: the letter, the span, what the plan says. 59 is the plan of its head, 60 of its end.
+fn line(
+    out: &mut [u8],
+    n: usize,
+    tree: &[u8],
+    index: &[u64],
+    letter: usize,
+    span: Span,
+    p: Plan,
+) -> usize
+    requires { ⌜ (n < 1048576) × TextsAt (now tree) (now index) × Named (now tree) (now index) p ⌝ }
+    ensures { λ r. ⌜ Said (now (out .entry)) n (now (out .exit)) r (lineText (textsOf (now (tree .entry))) letter span p) 512 ⌝ }
+{
+    let head = Plan {
+        kind: 59,
+        name: 0,
+        first: span.start as u64,
+        second: span.end as u64,
+        third: 0,
+        word: letter,
+        other: 0,
+    };
+    let a = pieces::write(out, n, tree, index, head);
+    let b = pieces::write(out, a, tree, index, p);
+    pieces::write(out, b, tree, index, plans::plain(60))
+}
+
+// The note's line, where there is a note; 26 is its letter.
+fn note_line(out: &mut [u8], n: usize, tree: &[u8], index: &[u64], secondary: Secondary) -> usize
+    requires { ⌜ (n < 1048576) × TextsAt (now tree) (now index) × NoteBelow (length (textsOf (now tree))) secondary ⌝ }
+    ensures { λ r. ⌜ Said (now (out .entry)) n (now (out .exit)) r (ended (noteLines (textsOf (now (tree .entry))) (secondaryOf secondary))) 512 ⌝ }
+{
+    let Secondary::Some(note, span) = secondary else {
+        return n;
+    };
+    line(out, n, tree, index, 26, span, plans::note_plan(note))
+}
+
+// The message's line.
+fn message_line(
+    out: &mut [u8],
+    n: usize,
+    tree: &[u8],
+    index: &[u64],
+    severity: Severity,
+    span: Span,
+    message: Message,
+) -> usize
+    requires { ⌜ (n < 1048576) × TextsAt (now tree) (now index) × Below (length (textsOf (now tree))) (nameIn message) ⌝ }
+    ensures { λ r. ⌜ Said (now (out .entry)) n (now (out .exit)) r (ended (spanLine (letter (severityOf severity)) span (messageText (textsOf (now (tree .entry))) (messageOf message)) ∷ [])) 512 ⌝ }
+{
+    line(
+        out,
+        n,
+        tree,
+        index,
+        plans::letter_word(severity),
+        span,
+        plans::message_plan(message),
+    )
+}
+
+// One diagnostic more, and the listing's length.
+fn counted(sink: Sink, severity: Severity, n: usize) -> Sink
+    requires { ⌜ sink .errors + sink .warnings ≤ 256 ⌝ }
+    ensures { λ r. ⌜ r ≡ countedOf sink severity n ⌝ }
+{
+    match severity {
+        Severity::Error => Sink {
+            n,
+            errors: sink.errors + 1,
+            warnings: sink.warnings,
+        },
+        Severity::Warning => Sink {
+            n,
+            errors: sink.errors,
+            warnings: sink.warnings + 1,
+        },
+    }
+}
+
+// Writes a diagnostic behind what is written; one past the limit adds nothing. The walk over an accepted tree meets what is required.
+pub fn report(out: &mut [u8], sink: Sink, tree: &[u8], index: &[u64], d: Diagnostic) -> Sink
+    requires { ⌜ TextsAt (now tree) (now index) × Fits (length (textsOf (now tree))) d × SinkFits sink ⌝ }
+    ensures { λ r. ⌜ Reported (textsOf (now (tree .entry))) d sink (now (out .entry)) r (now (out .exit)) ⌝ }
+{
+    let n = sink.n;
+    let errors = sink.errors;
+    let warnings = sink.warnings;
+    if 256 < errors + warnings {
+        return sink;
+    }
+    let severity = d.severity;
+    let span = d.span;
+    let message = d.message;
+    let secondary = d.secondary;
+    let a = message_line(out, n, tree, index, severity, span, message);
+    let b = note_line(out, a, tree, index, secondary);
+    counted(sink, severity, b)
+}
+
+// The listing's first line, from place 0 on: the plan 61. The answer is its length.
+pub fn first_line(out: &mut [u8], errors: usize, warnings: usize) -> usize
+    ensures { λ r. ⌜ Wrote (now (out .entry)) 0 (now (out .exit)) r (ended (spaced (text "list") (decimal errors ∷ decimal warnings ∷ []) ∷ [])) ⌝ }
+{
+    let none = [0u64; 1];
+    pieces::write(
+        out,
+        0,
+        b"",
+        &none,
+        plans::numbered(61, 0, errors as u64, warnings as u64, 0),
+    )
+}
