@@ -1,13 +1,14 @@
 -- The starred edges of the document: for each a tree file, the answer with buffers of 65,536 bytes, and the listing.
-use Prim.Native.Nat.{ℕ}
+use Prim.Native.Nat.{ℕ, zero, suc}
 use Prim.Native.String.{String}
 use mathlib.Core.List.{List, [], _∷_}
 use mathlib.Core.Option.{none, some}
 use Rattle.text.specs.Text.{text, concat}
-use Rattle.ast.specs.Tree.{Text, noExpr, Stmt}
+use Rattle.ast.specs.Tree.{Text, Expr, noExpr, Stmt}
 use Rattle.ast.specs.declared.BinOp.{BinOp}
+use Rattle.ast.specs.declared.ClassicalType.{ClassicalType}
 use Rattle.tree.specs.Encode.{encode}
-use Rattle.ast.specs.Build.{span, block, whole, index, slice, qubit, measure, h, if, while, nested, int, minus, op, controlled}
+use Rattle.ast.specs.Build.{span, nth, block, whole, index, slice, qubit, measure, h, if, while, nested, int, minus, op, controlled}
 use Rattle.answer.specs.Answer.{Answer, accepted, refusal}
 
 pub record Edge : Type 0 where
@@ -23,6 +24,14 @@ names = text "q" ∷ text "h" ∷ text "x" ∷ []
 abbrev file : List Stmt → List ℕ
 file ss = encode (record { texts = names; statements = block ss })
 
+-- 1 with so many signs before it, and `int h = ..;`
+abbrev negated : ℕ → Expr
+negated zero = int 1
+negated (suc n) = minus (negated n)
+
+abbrev declared : Expr → Stmt
+declared e = Stmt.ClassicalDecl 0 none ClassicalType.Int 1 (some e) (nth 0)
+
 abbrev lines : List String → List ℕ
 lines [] = []
 lines (l ∷ ls) = concat (text l ∷ text "\n" ∷ lines ls ∷ [])
@@ -32,6 +41,16 @@ empty = text "list 0 0\n"
 
 unfoldable pub no-statements : Edge
 no-statements = record { tree = 0 ∷ 0 ∷ 0 ∷ 0 ∷ []; answers = accepted 0 0 9; listing = empty }
+
+-- `qubit[2] q;` with text 0, span 0 to 11, byte for byte, behind one text and one count
+unfoldable pub qubit-declaration : Edge
+qubit-declaration = record {
+  tree =
+      0x00 ∷ 0x01 ∷ 0x01 ∷ 0x71 ∷ 0x00 ∷ 0x01
+      ∷ 0x01 ∷ 0x00 ∷ 0x00 ∷ 0x01 ∷ 0x00 ∷ 0x00 ∷ 0x00 ∷ 0x00 ∷ 0x00 ∷ 0x00 ∷ 0x00 ∷ 0x02 ∷ 0x00 ∷ 0x00 ∷ 0x00 ∷ 0x00 ∷ 0x00 ∷ 0x00 ∷ 0x00 ∷ 0x0B ∷ [];
+  answers = accepted 0 0 9;
+  listing = empty;
+}
 
 unfoldable pub keys-256 : Edge
 keys-256 = record { tree = file (qubit (some 300) 0 ∷ measure (slice 0 255) 1 ∷ []); answers = accepted 0 0 9; listing = empty }
@@ -45,6 +64,13 @@ levels-8 = record { tree = file (nested 8); answers = accepted 0 0 9; listing = 
 -- the ninth `while` stands at 10 (texts and the count) + 8 * 13 (case, condition and count)
 unfoldable pub levels-9 : Edge
 levels-9 = record { tree = file (nested 9); answers = refusal 6 114; listing = [] }
+
+unfoldable pub expression-levels-32 : Edge
+expression-levels-32 = record { tree = file (declared (negated 31) ∷ []); answers = accepted 0 0 9; listing = empty }
+
+-- the initializer stands at 16, and each `-` is one byte before its part
+unfoldable pub expression-levels-33 : Edge
+expression-levels-33 = record { tree = file (declared (negated 32) ∷ []); answers = refusal 6 48; listing = [] }
 
 unfoldable pub gate-on-q-after-measure-of-index-0 : Edge
 gate-on-q-after-measure-of-index-0 = record {
