@@ -1,0 +1,97 @@
+//! The cases of a run: random trees, trees at the limits, damaged files.
+
+use crate::draws::Draws;
+use crate::edges::EDGES;
+use crate::known::KNOWN;
+use crate::maker::Maker;
+use crate::reader;
+use crate::statements::{Weights, ANY, CALLS, MARKS, STATEMENT_LEVELS, TYPED};
+use crate::tree::*;
+use crate::writer::Writer;
+
+const MOST_BYTES: usize = 16_384;
+
+pub struct Case {
+    pub kind: &'static str,
+    pub tree: Tree,
+    pub bytes: Vec<u8>,
+}
+
+pub fn bytes(tree: &Tree) -> Vec<u8> {
+    Writer::tree(tree).bytes
+}
+
+/// The case of a number: of every twelve two are at a limit, two are known, one
+/// is damaged, the others are random. An edge's number is 0, 1 and 2 in turn.
+pub fn case(seed: u64, number: u64) -> Case {
+    let mut maker = Maker::new(Draws::new(seed, number));
+    let round = (number / 6) as usize;
+    match number % 6 {
+        3 => {
+            let (kind, make) = EDGES[round % EDGES.len()];
+            let more = (round / EDGES.len() + round % EDGES.len()) % 3;
+            let statements = make(&mut maker, more);
+            whole(kind, maker, statements)
+        }
+        4 => {
+            let (kind, make) = KNOWN[round % KNOWN.len()];
+            let statements = make(&mut maker);
+            whole(kind, maker, statements)
+        }
+        5 if round % 2 == 1 => damaged(maker),
+        _ => random(maker),
+    }
+}
+
+fn whole(kind: &'static str, maker: Maker, statements: Vec<Stmt>) -> Case {
+    let tree = Tree { texts: maker.texts, statements };
+    let bytes = bytes(&tree);
+    Case { kind, tree, bytes }
+}
+
+fn random(mut maker: Maker) -> Case {
+    const STYLES: [(&str, Weights, usize); 5] = [
+        ("random", ANY, 50),
+        ("random marks", MARKS, 85),
+        ("random types", TYPED, 15),
+        ("random calls", CALLS, 80),
+        ("random dense marks", MARKS, 100),
+    ];
+    let style = maker.draws.below(STYLES.len());
+    let (kind, weights, qubits) = STYLES[style];
+    if style == 4 {
+        maker.variables.truncate(2);
+    }
+    let count = match maker.draws.below(10) {
+        0..=3 => 1 + maker.draws.below(4),
+        4..=8 => 5 + maker.draws.below(16),
+        _ => 20 + maker.draws.below(40),
+    };
+    let mut statements = maker.declarations(qubits);
+    statements.extend(maker.many(count, |m| m.statement(&weights, STATEMENT_LEVELS)));
+    let mut case = whole(kind, maker, statements);
+    while case.bytes.len() > MOST_BYTES {
+        case.tree.statements.pop();
+        case.bytes = bytes(&case.tree);
+    }
+    case
+}
+
+/// A file that the reader refuses; what was damaged is drawn until it does.
+fn damaged(mut maker: Maker) -> Case {
+    let mut draws = Draws::new(maker.draws.next(), 0);
+    let mut case = random(maker);
+    case.kind = "damaged";
+    let good = case.bytes.clone();
+    while reader::read(&case.bytes).is_ok() {
+        case.bytes = good.clone();
+        let place = draws.below(good.len());
+        match draws.below(4) {
+            0 => case.bytes.truncate(place),
+            1 => case.bytes.extend([0, 1, 2].iter().take(1 + place % 3)),
+            2 => case.bytes[place] = draws.of(&[0, 1, 2, 15, 17, 33, 255]),
+            _ => drop(case.bytes.remove(place)),
+        }
+    }
+    case
+}
