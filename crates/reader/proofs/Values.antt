@@ -208,4 +208,7 @@ module _ {A B : Type 0} (nil : B) (cons : A → B → B) (p : Reader A) (s : Lis
     unfolding counted _>>=_ bind
     counted-start r k e h = rw (count-read s at r k e h)
 
-pub ruleset vecs = (counted-refused, counted-start, repeat-none, repeat-refused, repeat-more)
+pub positive : (m n : ℕ) → m < n → 0 < n
+positive m n h = omega arith
+
+pub ruleset vecs = (counted-refused, counted-start, repeat-none, repeat-refused, repeat-more, positive)
