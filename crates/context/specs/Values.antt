@@ -2,6 +2,9 @@
 use Prim.Native.Nat.{ℕ}
 use mathlib.Core.Option.{Option, none, some}
 use Rattle.ast.specs.Tree.{GateOperand}
+use Rattle.ast.specs.declared.ClassicalType.{ClassicalType}
+use Rattle.types.specs.declared.Typed.{Typed}
+use Rattle.types.specs.declared.Typed.the-variants.{«Type», None}
 use Rattle.sema.specs.Messages
 use Rattle.sema.specs.Symbols.{Symbol, GateSig}
 use Rattle.context.specs.declared.Number.{Number}
@@ -45,3 +48,7 @@ gateOf g = record { param-count = g .«param_count»; qubit-count = g .«qubit_c
 abbrev pub foundGateOf : FoundGate → Option GateSig
 foundGateOf (FoundGate.Some g) = some (gateOf g)
 foundGateOf FoundGate.None = none
+
+abbrev pub typedOf : Typed → Option ClassicalType
+typedOf («Type» ty) = some ty
+typedOf None = none

@@ -10,7 +10,7 @@ use Rattle.span.specs.declared.Span.{Span}
 use Rattle.ast.specs.Tree.{Text, TextNumber, Stmt}
 use Rattle.ast.specs.declared.ClassicalType.{ClassicalType}
 use Rattle.text.specs.Text.{part}
-use Rattle.tree.specs.Ans.{Ans, given}
+use Rattle.tree.specs.Ans.{Ans, IsOk, given}
 use Rattle.tree.specs.Read.{value}
 use Rattle.tree.specs.Stmts.{measure}
 use Rattle.tree.specs.Decode.{textsOf}
@@ -175,3 +175,11 @@ marksOf tree ks sheet k = markBy tree (placeIn ks sheet k)
 abbrev pub contextOf : List ℕ → List Key → List ℕ → ℕ → List ℕ → SemaContext
 contextOf tree ks scratch depth sheet =
     record { symbols = scopesOf scratch depth; gates = gatesOf scratch; functions = functionsOf scratch; measured = marksOf tree ks sheet }
+
+-- each place of a sheet is that of a measure statement, or 0
+abbrev pub PlaceOk : List ℕ → ℕ → Type 0
+PlaceOk tree zero = Unit {0}
+PlaceOk tree (suc p) = IsOk (measure (textsOf tree) (suc p) tree (suc p + 1))
+
+pub record Placed (tree sheet : List ℕ) : Type 0 where
+  pub each : (i : ℕ) → PlaceOk tree (getD sheet i 0)

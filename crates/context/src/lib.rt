@@ -1,6 +1,7 @@
 // The values that the walk over a tree passes around, as the code holds them.
 use ast::ClassicalType;
 use span::Span;
+use types::Typed;
 
 // An Option of a number.
 pub enum Number {
@@ -69,4 +70,24 @@ pub struct Sink {
     pub n: usize,
     pub errors: usize,
     pub warnings: usize,
+}
+
+// What an expression is found to be, the place past it, and the listing after what is said of it.
+pub struct Typing {
+    pub typed: Typed,
+    pub next: usize,
+    pub sink: Sink,
+}
+
+// The place past what was checked, and the listing after what is said of it.
+pub struct After {
+    pub next: usize,
+    pub sink: Sink,
+}
+
+// The walk: the place in the tree, the listing, the marks.
+pub struct State {
+    pub at: usize,
+    pub sink: Sink,
+    pub marks: [u16; 256],
 }

@@ -11,11 +11,12 @@ use lib.Seq.{drop-cons, take-suc-set, drop-set-lt, set-getD, drop-length, take-l
 use Rattle.span.specs.declared.Span.{Span}
 use Rattle.ast.specs.Tree.{GateOperand}
 use Rattle.sema.specs.Marks.{Key, apply, clearMeasured, unite}
-use Rattle.context.specs.View.{keyAt, keysIn, marksOf, measureSpan}
+use Rattle.context.specs.View.{keyAt, keysIn, marksOf, measureSpan, PlaceOk, Placed}
 use Rattle.sheet.specs.Sheet.{first, stored, united, reaches, touches, measuring, Covers}
 use Rattle.sheet.specs.Places.{first-zero, first-some}
 use Rattle.sheet.specs.Effects.{marks-set, marks-clear, marks-united}
 use Rattle.sheet.specs.Table.{length-keys}
+use Rattle.sheet.specs.Kept.{stored-placed, united-placed}
 use Rattle.sheet.proofs.Loops.{rest, rest-more, rest-end, rest-all}
 
 -- a store at i of what is next
@@ -85,6 +86,14 @@ module _ (index : List ℕ) (count : ℕ) (sheet : List ℕ) (op : GateOperand) 
   unfolding clearMeasured touches reaches
   clear-marks size e tree sp = rw e (marks-clear tree (touches true size op) (keysIn index count) sheet fits sp)
 
+-- the places of a store
+module _ (ks : List Key) (sheet r : List ℕ) (t : Key → Bool) where
+  pub store-placed : (p : ℕ) → r ≡ stored t p ks sheet → (tree : List ℕ) → PlaceOk tree p → Placed tree sheet → Placed tree r
+  store-placed p e tree h g = rw e (stored-placed tree t p ks sheet h g)
+
+  pub clear-placed : r ≡ stored t 0 ks sheet → (tree : List ℕ) → Placed tree sheet → Placed tree r
+  clear-placed e tree g = store-placed 0 e tree tt g
+
 -- the first i places are united
 pub record Uniting (a b r : List ℕ) (i : ℕ) : Type 0 where
   pub within : i ≤ 256
@@ -122,12 +131,15 @@ module _ (a b r r′ : List ℕ) (i : ℕ) (u : Uniting a b r i) where
     pub uniting-else : (getD r i 0 ≡ 0 → ⊥) → r′ ≡ r → Uniting a b r′ (i + 1)
     uniting-else z e = uniting-more h (rw (first-some (getD r i 0) (getD b i 0) z) (e ∙ sym (set-getD r i 0)))
 
-pub uniting-end : (a b r : List ℕ) (i : ℕ) → Uniting a b r i → 256 ≤ i
-    → (tree : List ℕ) (ks : List Key) → marksOf tree ks r ≡ unite (marksOf tree ks a) (marksOf tree ks b)
-unfolding united
-uniting-end a b r i u h tree ks =
-    let e : i ≡ length r = omega (arith, u .within, u .size) in
-    let d : united a b ≡ r = u .same ∙ rw (e, drop-length r, take-length r) (append-nil r) in
-    rw (← d) (marks-united tree ks a b (u .left ∙ sym (u .right)))
+module _ (a b r : List ℕ) (i : ℕ) (u : Uniting a b r i) (h : 256 ≤ i) where
+  all-united : united a b ≡ r
+  unfolding united
+  all-united = let e : i ≡ length r = omega (arith, u .within, u .size) in u .same ∙ rw (e, drop-length r, take-length r) (append-nil r)
 
-pub ruleset uniting = (uniting-start, uniting-then, uniting-else, uniting-end)
+  pub uniting-end : (tree : List ℕ) (ks : List Key) → marksOf tree ks r ≡ unite (marksOf tree ks a) (marksOf tree ks b)
+  uniting-end tree ks = rw (← all-united) (marks-united tree ks a b (u .left ∙ sym (u .right)))
+
+  pub uniting-placed : (tree : List ℕ) → Placed tree a → Placed tree b → Placed tree r
+  uniting-placed tree e f = rw (← all-united) (united-placed tree a b e f)
+
+pub ruleset uniting = (uniting-start, uniting-then, uniting-else, uniting-end, uniting-placed)

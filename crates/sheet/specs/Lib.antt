@@ -5,3 +5,4 @@ pub mod Effects
 pub mod Table
 pub mod Smallest
 pub mod Covering
+pub mod Kept

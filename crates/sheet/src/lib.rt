@@ -10,7 +10,7 @@ ghost use Rattle.span.specs.declared.Span.{Span};
 ghost use Rattle.sema.specs.Marks.{Key, key, noMarks, inSlice, isIndex, belowSize, apply, clearMeasured, unite as uniteMarks};
 ghost use Rattle.sema.specs.Keys.{sameKey, addKey, addRange, addMeasured, sizeOr0};
 ghost use Rattle.context.specs.Values.{numberOf, endsOf, operandOf};
-ghost use Rattle.context.specs.View.{keyBy, keysIn, placeIn, marksOf, measureSpan};
+ghost use Rattle.context.specs.View.{keyBy, keysIn, placeIn, marksOf, measureSpan, PlaceOk, Placed};
 ghost use Rattle.sheet.specs.Sheet.{Indexed, position, lookupIn, smaller, offer, leastIn, smallestIn, Covers, reaches, touches, measuring, stored, KeysAdded};
 use context::Ends;
 use context::GateOperand;
@@ -258,7 +258,8 @@ pub fn set(
     requires { ⌜ Indexed (now index) count ⌝ }
     requires { ⌜ 0 < place ⌝ }
     requires { ⌜ Covers (keysIn (now index) count) (measuring (numberOf size) (operandOf op)) ⌝ }
-    ensures { λ r. ⌜ ((tree : List ℕ) → marksOf tree (keysIn (now (index .entry)) count) r ≡ apply (measuring (numberOf size) (operandOf op)) (measureSpan tree place) (marksOf tree (keysIn (now (index .entry)) count) sheet)) ⌝ }
+    ensures placed { λ r. ⌜ ((tree : List ℕ) → PlaceOk tree place → Placed tree sheet → Placed tree r) ⌝ }
+    ensures marks { λ r. ⌜ ((tree : List ℕ) → marksOf tree (keysIn (now (index .entry)) count) r ≡ apply (measuring (numberOf size) (operandOf op)) (measureSpan tree place) (marksOf tree (keysIn (now (index .entry)) count) sheet)) ⌝ }
 {
     store(sheet, index, count, op, size, false, place)
 }
@@ -266,14 +267,16 @@ pub fn set(
 // `clear_measured`.
 pub fn clear(sheet: [u16; 256], index: &[u64], count: usize, op: GateOperand) -> [u16; 256]
     requires { ⌜ Indexed (now index) count ⌝ }
-    ensures { λ r. ⌜ ((tree : List ℕ) (sp : Span) → marksOf tree (keysIn (now (index .entry)) count) r ≡ apply (clearMeasured (operandOf op)) sp (marksOf tree (keysIn (now (index .entry)) count) sheet)) ⌝ }
+    ensures placed { λ r. ⌜ ((tree : List ℕ) → Placed tree sheet → Placed tree r) ⌝ }
+    ensures marks { λ r. ⌜ ((tree : List ℕ) (sp : Span) → marksOf tree (keysIn (now (index .entry)) count) r ≡ apply (clearMeasured (operandOf op)) sp (marksOf tree (keysIn (now (index .entry)) count) sheet)) ⌝ }
 {
     store(sheet, index, count, op, Number::None, true, 0)
 }
 
 // Both exits of a branch: the marks of a, and where it has none those of b.
 pub fn unite(a: [u16; 256], b: [u16; 256]) -> [u16; 256]
-    ensures { λ r. ⌜ ((tree : List ℕ) (ks : List Key) → marksOf tree ks r ≡ uniteMarks (marksOf tree ks a) (marksOf tree ks b)) ⌝ }
+    ensures placed { λ r. ⌜ ((tree : List ℕ) → Placed tree a → Placed tree b → Placed tree r) ⌝ }
+    ensures marks { λ r. ⌜ ((tree : List ℕ) (ks : List Key) → marksOf tree ks r ≡ uniteMarks (marksOf tree ks a) (marksOf tree ks b)) ⌝ }
 {
     let mut r = a;
     let mut i = 0;
@@ -287,7 +290,8 @@ pub fn unite(a: [u16; 256], b: [u16; 256]) -> [u16; 256]
 }
 
 pub fn blank() -> [u16; 256]
-    ensures { λ r. ⌜ ((tree : List ℕ) (ks : List Key) → marksOf tree ks r ≡ noMarks) ⌝ }
+    ensures placed { λ r. ⌜ ((tree : List ℕ) → Placed tree r) ⌝ }
+    ensures marks { λ r. ⌜ ((tree : List ℕ) (ks : List Key) → marksOf tree ks r ≡ noMarks) ⌝ }
 {
     [0u16; 256]
 }

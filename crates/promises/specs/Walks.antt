@@ -1,0 +1,67 @@
+-- What the walk over statements asks and promises. Assumes nothing.
+use Prim.Native.Nat.{ℕ, _≤_, _<_}
+use mathlib.Core.Path.{_≡_}
+use mathlib.Core.Bool.{true}
+use mathlib.Core.List.{List, []}
+use lib.ListN.{length, drop}
+use Rattle.ast.specs.Tree.{Text, Stmt, Stmts}
+use Rattle.tree.specs.Limits.{fileLimit}
+use Rattle.tree.specs.Ans.{Ans, ok, given}
+use Rattle.sema.specs.Messages.{Diagnostic}
+use Rattle.sema.specs.Symbols.{Symbols}
+use Rattle.sema.specs.Marks.{Key}
+use Rattle.sema.specs.Keys.{hasKey}
+use Rattle.sema.specs.KeyCount.{SetsStmt, Sets}
+use Rattle.sema.specs.Stmts.{SemaContext, analyzeStmt, analyzeStmts}
+use Rattle.context.specs.declared.Sink.{Sink}
+use Rattle.context.specs.declared.State.{State}
+use Rattle.context.specs.Sink.{SinkFits}
+use Rattle.context.specs.View.{TextsAt, Placed, keysIn, scopesOf, functionsOf, contextOf}
+use Rattle.tables.specs.Tables.{tablesEnd, FewParams}
+use Rattle.sheet.specs.Sheet.{Indexed, Distinct}
+use Rattle.promises.specs.Emitted.{Emitted}
+
+-- what holds before every statement of a walk, whatever the state
+pub record Walkable (tree index : List ℕ) (keys : ℕ) : Type 0 where
+  pub small : length tree ≤ fileLimit
+  pub texts : TextsAt tree index
+  pub indexed : Indexed index keys
+  pub distinct : Distinct (keysIn index keys)
+
+-- what holds of the scratch and of the state
+pub record Ready (tree scratch : List ℕ) (st : State) : Type 0 where
+  pub room : 65536 ≤ length scratch
+  pub few : FewParams (functionsOf scratch)
+  pub placed : Placed tree (st .marks)
+  pub fits : SinkFits (st .sink)
+
+-- every key that the statement's measure statements set is in the table; so of the statements of a body
+pub record StmtKeyed (ks : List Key) (ss : Symbols) (x : Ans Stmt) : Type 0 where
+  pub each : (s : Stmt) (n : ℕ) → x ≡ ok s n → (k : Key) → SetsStmt s ss k → hasKey ks k ≡ true
+
+pub record BodyKeyed (ks : List Key) (ss : Symbols) (x : Ans Stmts) : Type 0 where
+  pub each : (b : Stmts) (n : ℕ) → x ≡ ok b n → (k : Key) → Sets b ss k → hasKey ks k ≡ true
+
+-- what the analysis makes of the statement, or of the statements of a body, that was read
+abbrev pub Walk : Type 0
+Walk = SemaContext → SemaContext × List Diagnostic
+
+abbrev pub stay : Walk
+stay c = (c, [])
+
+abbrev pub walkStmt : List Text → Ans Stmt → Walk
+walkStmt t x = given stay (analyzeStmt t) x
+
+abbrev pub walkBody : List Text → Ans Stmts → Walk
+walkBody t x = given stay (analyzeStmts t) x
+
+-- From the state st, over so many scopes of the scratch s and the buffer o, the walk has come to r, s′ and o′.
+pub record Walked (tree : List ℕ) (t : List Text) (ks : List Key) (depth : ℕ) (walk : Walk) (end : ℕ) (st : State) (s o : List ℕ) (r : State) (s′ o′ : List ℕ) : Type 0 where
+  pub at : r .at ≡ end
+  pub goes : contextOf tree ks s′ depth (r .marks) ≡ walk (contextOf tree ks s depth (st .marks)) .0
+  pub emitted : Emitted t (walk (contextOf tree ks s depth (st .marks)) .1) (st .sink) o (r .sink) o′
+  pub below : (d : ℕ) → d < depth → scopesOf s′ d ≡ scopesOf s d
+  pub same-length : length s′ ≡ length s
+  pub same-rest : drop tablesEnd s′ ≡ drop tablesEnd s
+  pub few : FewParams (functionsOf s′)
+  pub placed : Placed tree (r .marks)

@@ -1,0 +1,1 @@
+// What the functions of the walk promise: definitions and laws only.
