@@ -1,12 +1,14 @@
 -- What the walk over statements asks and promises. Assumes nothing.
-use Prim.Native.Nat.{ℕ, _≤_, _<_}
+use Prim.Native.Nat.{ℕ, _-_, _≤_, _<_}
 use mathlib.Core.Path.{_≡_}
 use mathlib.Core.Bool.{true}
 use mathlib.Core.List.{List, []}
 use lib.ListN.{length, drop}
 use Rattle.ast.specs.Tree.{Text, Stmt, Stmts}
 use Rattle.tree.specs.Limits.{fileLimit}
-use Rattle.tree.specs.Ans.{Ans, ok, given}
+use Rattle.tree.specs.Ans.{Ans, ok, nextOf, given}
+use Rattle.tree.specs.Stmts.{body, stmt}
+use Rattle.tree.specs.Decode.{textsOf}
 use Rattle.sema.specs.Messages.{Diagnostic}
 use Rattle.sema.specs.Symbols.{Symbols}
 use Rattle.sema.specs.Marks.{Key}
@@ -65,3 +67,14 @@ pub record Walked (tree : List ℕ) (t : List Text) (ks : List Key) (depth : ℕ
   pub same-rest : drop tablesEnd s′ ≡ drop tablesEnd s
   pub few : FewParams (functionsOf s′)
   pub placed : Placed tree (r .marks)
+
+-- So of one statement, and of a body, whose statements have so many levels left.
+abbrev pub StmtWalked : List ℕ → List ℕ → ℕ → ℕ → State → List ℕ → List ℕ → State → List ℕ → List ℕ → Type 0
+StmtWalked tree index keys left st s o r s′ o′ =
+    Walked tree (textsOf tree) (keysIn index keys) (9 - left) (walkStmt (textsOf tree) (stmt (textsOf tree) left tree (st .at)))
+    (nextOf (stmt (textsOf tree) left tree (st .at))) st s o r s′ o′
+
+abbrev pub BodyWalked : List ℕ → List ℕ → ℕ → ℕ → State → List ℕ → List ℕ → State → List ℕ → List ℕ → Type 0
+BodyWalked tree index keys left st s o r s′ o′ =
+    Walked tree (textsOf tree) (keysIn index keys) (9 - left) (walkBody (textsOf tree) (body (stmt (textsOf tree) left) tree (st .at)))
+    (nextOf (body (stmt (textsOf tree) left) tree (st .at))) st s o r s′ o′
