@@ -94,6 +94,15 @@ abbrev pub diagnosticOf : Diagnostic → Messages.Diagnostic
 diagnosticOf d =
     record { severity = severityOf (d .severity); message = messageOf (d .message); span = d .span; secondary = secondaryOf (d .secondary) }
 
+abbrev pub errorOf : Message → Span → Diagnostic
+errorOf m sp = record { severity = Severity.Error; message = m; span = sp; secondary = Secondary.None }
+
+abbrev pub errorWithNoteOf : Message → Span → Note → Span → Diagnostic
+errorWithNoteOf m sp n at = record { severity = Severity.Error; message = m; span = sp; secondary = Secondary.Some n at }
+
+abbrev pub warningOf : Message → Span → Diagnostic
+warningOf m sp = record { severity = Severity.Warning; message = m; span = sp; secondary = Secondary.None }
+
 -- the text number in a message
 abbrev pub nameIn : Message → Option ℕ
 nameIn (Message.AlreadyDeclared x) = some x

@@ -19,7 +19,7 @@ ghost use Rattle.tree.specs.Decode.{textsOf};
 ghost use Rattle.listing.specs.Listing.{ended, spaced, spanLine, letter, noteLines};
 ghost use Rattle.context.specs.Sink.{SinkFits};
 ghost use Rattle.context.specs.View.{TextsAt};
-ghost use Rattle.lines.specs.Values.{severityOf, messageOf, secondaryOf, nameIn, Below, NoteBelow, Fits, countedOf, Reported};
+ghost use Rattle.lines.specs.Values.{severityOf, messageOf, secondaryOf, nameIn, Below, NoteBelow, Fits, countedOf, errorOf, errorWithNoteOf, warningOf, Reported};
 ghost use Rattle.lines.specs.Stored.{Wrote, Said};
 ghost use Rattle.lines.specs.Plans.{Named, lineText};
 
@@ -112,6 +112,39 @@ pub struct Diagnostic {
     pub message: Message,
     pub span: Span,
     pub secondary: Secondary,
+}
+
+pub fn error(message: Message, span: Span) -> Diagnostic
+    ensures { λ r. ⌜ r ≡ errorOf message span ⌝ }
+{
+    Diagnostic {
+        severity: Severity::Error,
+        message,
+        span,
+        secondary: Secondary::None,
+    }
+}
+
+pub fn error_with_note(message: Message, span: Span, note: Note, at: Span) -> Diagnostic
+    ensures { λ r. ⌜ r ≡ errorWithNoteOf message span note at ⌝ }
+{
+    Diagnostic {
+        severity: Severity::Error,
+        message,
+        span,
+        secondary: Secondary::Some(note, at),
+    }
+}
+
+pub fn warning(message: Message, span: Span) -> Diagnostic
+    ensures { λ r. ⌜ r ≡ warningOf message span ⌝ }
+{
+    Diagnostic {
+        severity: Severity::Warning,
+        message,
+        span,
+        secondary: Secondary::None,
+    }
 }
 
 // How a text is made: the kind is a row of PLANS; the words are numbers of phrases.
