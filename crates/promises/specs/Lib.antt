@@ -1,3 +1,4 @@
 pub mod Emitted
 pub mod Typings
 pub mod Walks
+pub mod WalkLaws

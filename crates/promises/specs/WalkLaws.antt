@@ -1,0 +1,45 @@
+-- How a function shows that it walked a statement. Assumes nothing.
+use Prim.Native.Nat.{ℕ, _-_, _<_}
+use mathlib.Core.Path.{_≡_, refl, sym, ap, _∙_}
+use mathlib.Core.List.{List}
+use lib.ListN.{length, drop}
+use Rattle.span.specs.declared.Span.{Span}
+use Rattle.ast.specs.Tree.{Text, Stmt, Stmts, noStmt}
+use Rattle.tree.specs.Ans.{Ans, ok, IsOk}
+use Rattle.tree.specs.Stmts.{body, stmt}
+use Rattle.tree.specs.Decode.{textsOf}
+use Rattle.sema.specs.Marks.{Marks, Key, keep, mark, apply}
+use Rattle.sema.specs.Stmts.{SemaContext, analyzeStmt, analyzeStmts}
+use Rattle.context.specs.declared.State.{State}
+use Rattle.context.specs.View.{Placed, keysIn, scopesOf, functionsOf, contextOf}
+use Rattle.tables.specs.Tables.{tablesEnd, FewParams}
+use Rattle.accepted.specs.Parts.{valueOr, ok-is, next-is, given-is}
+use Rattle.promises.specs.Emitted.{Emitted, emitted-as}
+use Rattle.promises.specs.Walks.{Ready, Walk, Walked, walkStmt, walkBody, StmtWalked, BodyWalked}
+
+-- a statement that does nothing to any mark leaves the marks
+pub marks-kept : (sp : Span) (m : Marks) → apply (λ (k : Key). keep) sp m ≡ m
+unfolding apply mark
+marks-kept sp m = refl
+
+-- the walk by another name
+module _ {tree : List ℕ} {t : List Text} {ks : List Key} {depth : ℕ} {w v : Walk} {end k : ℕ} {st : State} {s o : List ℕ} {r : State} {s′ o′ : List ℕ} where
+  pub walked-as : w ≡ v → end ≡ k → Walked tree t ks depth w end st s o r s′ o′ → Walked tree t ks depth v k st s o r s′ o′
+  walked-as e f h = rw (← e, ← f) h
+
+-- a statement that was read as S and ends at `end`
+module _ (tree index : List ℕ) (keys left : ℕ) (st : State) {S : Stmt} {end : ℕ} (e : stmt (textsOf tree) left tree (st .at) ≡ ok S end) where
+  walk-is : walkStmt (textsOf tree) (stmt (textsOf tree) left tree (st .at)) ≡ analyzeStmt (textsOf tree) S
+  walk-is = given-is e _ _
+
+  pub stmt-walked : {s o : List ℕ} {r : State} {s′ o′ : List ℕ} → Walked tree (textsOf tree) (keysIn index keys) (9 - left) (analyzeStmt (textsOf tree) S) end st s o r s′ o′ → StmtWalked tree index keys left st s o r s′ o′
+  stmt-walked h = walked-as (sym walk-is) (sym (next-is e)) h
+
+  -- where the scratch stays as it is
+  pub same-walked : {s o : List ℕ} {r : State} {o′ : List ℕ} → Ready tree s st → r .at ≡ end
+      → contextOf tree (keysIn index keys) s (9 - left) (r .marks) ≡ analyzeStmt (textsOf tree) S (contextOf tree (keysIn index keys) s (9 - left) (st .marks)) .0
+      → Emitted (textsOf tree) (analyzeStmt (textsOf tree) S (contextOf tree (keysIn index keys) s (9 - left) (st .marks)) .1) (st .sink) o (r .sink) o′
+      → Placed tree (r .marks) → StmtWalked tree index keys left st s o r s o′
+  same-walked h a g m p =
+      walked-as (sym walk-is) (sym (next-is e))
+      (record { at = a; goes = g; emitted = m; below = λ d l. refl; same-length = refl; same-rest = refl; few = h .few; placed = p })
