@@ -1,0 +1,3 @@
+pub mod Collecting
+pub mod Statements
+pub mod Bodies

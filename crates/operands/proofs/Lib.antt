@@ -1,0 +1,4 @@
+pub mod Checks
+pub mod WidthLaws
+pub mod UseLaws
+pub mod VecLaws

@@ -1,0 +1,22 @@
+-- `operands::kinds::is_gate_qubit` meets its contract. Assumes nothing.
+use borrow.Author.Needs.{needs}
+use Rattle.sema.specs.Operands.{isGateQubit}
+use Rattle.operands.proofs.kinds.is_gate_qubit.Statement.{statement}
+use Rattle.operands.proofs.kinds.is_gate_qubit.Tie as tie
+
+pub is-gate-qubit-spec : {M : Type 1} → statement M
+unfolding isGateQubit
+is-gate-qubit-spec =
+    tie.close (tie.spec
+    (λ c. search needs)  -- enum-told
+    (λ c. search needs)  -- enum-told-2
+    (λ c. search needs)  -- enum-told-3
+    (λ c. search needs)  -- enum-told-4
+    (λ c. search needs)  -- enum-told-5
+    (λ c. search needs)  -- enum-told-6
+    (λ c. search needs)  -- returns
+    (λ c. search needs)  -- returns-2
+    (λ c. search needs)  -- returns-3
+    (λ c. search needs)  -- returns-4
+    (λ c. search needs)  -- returns-5
+    (λ c. search needs))  -- returns-6

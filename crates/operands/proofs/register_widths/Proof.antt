@@ -1,0 +1,36 @@
+-- `operands::register_widths` meets its contract. Assumes nothing.
+use native.Mathlib.Omega.{arith}
+use borrow.Author.Needs.{needs}
+use Rattle.accepted.specs.Fields.{counted-in}
+use Rattle.operands.proofs.VecLaws.{Meeting, left-first, read-name, meeting-start, meeting-more, meeting-end}
+use Rattle.tree.specs.Decode.{textsOf}
+use Rattle.context.specs.View.{scopesOf}
+use Rattle.operands.proofs.register_widths.Statement.{statement}
+use Rattle.operands.proofs.register_widths.Tie as tie
+
+abbrev Inv-loop : tie.InvT-loop
+Inv-loop tree scratch depth at n₀ k₀ met₀ n k met = Meeting (textsOf tree) tree (scopesOf scratch depth) at n k met
+
+abbrev μ-loop : tie.MeasureT-loop
+μ-loop tree scratch depth at n₀ k₀ met₀ n k met = n
+
+operand-width-requires : tie.Need-operand-width-requires Inv-loop μ-loop
+operand-width-requires c κs =
+    let p = c .before .before .before .before .before .before .before .before .pre in
+    let l = read-name _ _ _ (c .before .operand-at .result .operand) _ (c .before .operand-at .ensures) in
+    (p .1, p .2, omega (arith, p .0))
+
+pub register-widths-spec : {M : Type 1} → statement M
+register-widths-spec =
+    tie.close (tie.spec Inv-loop μ-loop
+    (λ c. search counted-in)  -- shared-slice-read-wide
+    (λ c κs. search needs)  -- wide-requires
+    (λ c. let i = counted-in _ _ _ _ _ (c .before .before .before .before .pre .3) in omega arith)  -- add-k
+    (λ c. search meeting-start)  -- loop-holds
+    (λ c κs. search left-first)  -- operand-at-requires
+    operand-width-requires
+    (λ c κs. search needs)  -- meet-requires
+    (λ c. search needs)  -- sub-n
+    (λ c. search needs)  -- loop-less
+    (λ c. search meeting-more)  -- loop-again
+    (λ c. meeting-end _ _ _ _ _ _ _ (c .before .loop .inv) (c .loop-test .left)))  -- returns

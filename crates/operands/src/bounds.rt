@@ -1,0 +1,169 @@
+// What is said of an operand whose name is declared: its kind, its index, its slice.
+ghost use Prim.Native.Nat.{_<_};
+ghost use lib.ListN.{length};
+ghost use Rattle.tree.specs.Decode.{textsOf};
+ghost use Rattle.sema.specs.Operands.{indexSays, sliceSays, boundsSay};
+ghost use Rattle.context.specs.Sink.{SinkFits};
+ghost use Rattle.context.specs.Values.{numberOf, endsOf, operandOf, symbolOf};
+ghost use Rattle.context.specs.View.{TextsAt};
+ghost use Rattle.lines.specs.Values.{expectedOf};
+ghost use Rattle.promises.specs.Emitted.{Emitted};
+ghost use Rattle.operands.specs.Says.{kindSays};
+use crate::kinds::fits;
+use crate::kinds::indexes_wire;
+use crate::kinds::within;
+use context::Ends;
+use context::GateOperand;
+use context::Number;
+use context::Sink;
+use context::Symbol;
+use lines::Expected;
+use lines::Message;
+use lines::Note;
+use lines::error;
+use lines::error_with_note;
+
+pub fn check_kind(
+    tree: &[u8],
+    index: &[u64],
+    out: &mut [u8],
+    op: GateOperand,
+    symbol: Symbol,
+    expected: Expected,
+    sink: Sink,
+) -> Sink
+    requires { ⌜ TextsAt (now tree) (now index) × (op .name < length (textsOf (now tree))) × SinkFits sink ⌝ }
+    ensures { λ r. ⌜ Emitted (textsOf (now (tree .entry))) (kindSays (operandOf op) (symbolOf symbol) (expectedOf expected)) sink (now (out .entry)) r (now (out .exit)) ⌝ }
+{
+    let kind = symbol.kind;
+    if fits(expected, kind) {
+        return sink;
+    }
+    lines::report(
+        out,
+        sink,
+        tree,
+        index,
+        error_with_note(
+            Message::ExpectedKind(expected, op.name, kind),
+            op.span,
+            Note::DeclaredAs(op.name, kind),
+            symbol.decl_span,
+        ),
+    )
+}
+
+fn check_index(
+    tree: &[u8],
+    index: &[u64],
+    out: &mut [u8],
+    op: GateOperand,
+    symbol: Symbol,
+    sink: Sink,
+) -> Sink
+    requires { ⌜ TextsAt (now tree) (now index) × (op .name < length (textsOf (now tree))) × SinkFits sink ⌝ }
+    ensures { λ r. ⌜ Emitted (textsOf (now (tree .entry))) (indexSays (operandOf op) (symbolOf symbol) (numberOf (op .index)) (numberOf (symbol .size))) sink (now (out .entry)) r (now (out .exit)) ⌝ }
+{
+    let at = op.index;
+    let Number::Some(i) = at else {
+        return sink;
+    };
+    let size = symbol.size;
+    let Number::Some(n) = size else {
+        return lines::report(
+            out,
+            sink,
+            tree,
+            index,
+            error_with_note(
+                Message::CannotIndex(op.name),
+                op.span,
+                Note::DeclaredWithoutSize(op.name),
+                symbol.decl_span,
+            ),
+        );
+    };
+    if i < n {
+        return sink;
+    }
+    lines::report(
+        out,
+        sink,
+        tree,
+        index,
+        error_with_note(
+            Message::IndexOutOfBounds(i, op.name, n),
+            op.span,
+            Note::DeclaredWithSize(op.name, n),
+            symbol.decl_span,
+        ),
+    )
+}
+
+fn check_slice(
+    tree: &[u8],
+    index: &[u64],
+    out: &mut [u8],
+    op: GateOperand,
+    symbol: Symbol,
+    sink: Sink,
+) -> Sink
+    requires { ⌜ TextsAt (now tree) (now index) × (op .name < length (textsOf (now tree))) × SinkFits sink ⌝ }
+    ensures { λ r. ⌜ Emitted (textsOf (now (tree .entry))) (sliceSays (operandOf op) (symbolOf symbol) (endsOf (op .slice)) (numberOf (symbol .size))) sink (now (out .entry)) r (now (out .exit)) ⌝ }
+{
+    let slice = op.slice;
+    let Ends::Some(a, b) = slice else {
+        return sink;
+    };
+    let size = symbol.size;
+    let Number::Some(n) = size else {
+        return lines::report(
+            out,
+            sink,
+            tree,
+            index,
+            error(Message::CannotSlice(op.name), op.span),
+        );
+    };
+    if within(a, b, n) {
+        return sink;
+    }
+    lines::report(
+        out,
+        sink,
+        tree,
+        index,
+        error_with_note(
+            Message::SliceOutOfBounds(a, b, op.name, n),
+            op.span,
+            Note::DeclaredWithSize(op.name, n),
+            symbol.decl_span,
+        ),
+    )
+}
+
+// A gate qubit must not be indexed; else the bounds of index and slice.
+pub fn check_bounds(
+    tree: &[u8],
+    index: &[u64],
+    out: &mut [u8],
+    op: GateOperand,
+    symbol: Symbol,
+    sink: Sink,
+) -> Sink
+    requires { ⌜ TextsAt (now tree) (now index) × (op .name < length (textsOf (now tree))) × SinkFits sink ⌝ }
+    ensures { λ r. ⌜ Emitted (textsOf (now (tree .entry))) (boundsSay (operandOf op) (symbolOf symbol)) sink (now (out .entry)) r (now (out .exit)) ⌝ }
+{
+    let kind = symbol.kind;
+    if indexes_wire(op, kind) {
+        return lines::report(
+            out,
+            sink,
+            tree,
+            index,
+            error(Message::CannotIndexGateQubit(op.name), op.span),
+        );
+    }
+    let s = check_index(tree, index, out, op, symbol, sink);
+    check_slice(tree, index, out, op, symbol, s)
+}

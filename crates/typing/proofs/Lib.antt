@@ -1,0 +1,11 @@
+pub mod Finds
+pub mod Names
+pub mod Operators
+pub mod Calls
+pub mod Exprs
+pub mod Spans
+pub mod Owes
+pub mod Arguments
+pub mod Requires
+pub mod Modifiers
+pub mod Vecs
