@@ -1,0 +1,5 @@
+pub mod Simple
+pub mod Measured
+pub mod Counted
+pub mod Arity
+pub mod Called

@@ -1,0 +1,284 @@
+// Gate calls, measurements, resets, barriers and delays over accepted bytes: cases of analyze_stmt.
+mod calls;
+mod measures;
+
+ghost use mathlib.Core.Path.{_≡_};
+ghost use Prim.Native.Nat.{_+_, _-_, _≤_};
+ghost use lib.ListN.{length, getD};
+ghost use Rattle.tree.specs.Ans.{IsOk, nextOf};
+ghost use Rattle.tree.specs.Read.{vec};
+ghost use Rattle.tree.specs.Stmts.{operand, stmt};
+ghost use Rattle.tree.specs.Decode.{textsOf};
+ghost use Rattle.sema.specs.Operands.{useOperands};
+ghost use Rattle.context.specs.Sink.{SinkFits};
+ghost use Rattle.context.specs.View.{Placed, scopesOf, keysIn, marksOf, spanAt};
+ghost use Rattle.promises.specs.Typings.{SaidOf};
+ghost use Rattle.promises.specs.Walks.{Walkable, Ready, StmtKeyed, StmtWalked};
+use accepted::numbers::span_at;
+use accepted::operands::operand_at;
+use accepted::parts::skip_operands;
+use calls::call_at;
+use calls::check_args;
+use calls::check_signature;
+use calls::check_values;
+use context::After;
+use context::Sink;
+use context::State;
+use lines::Expected;
+use lines::Message;
+use measures::check_measure;
+use measures::mark_measured;
+
+// An include says nothing and changes nothing.
+pub fn include(
+    tree: &[u8],
+    index: &[u64],
+    scratch: &[u8],
+    out: &mut [u8],
+    keys: usize,
+    left: usize,
+    st: State,
+) -> State
+    requires { ⌜ Walkable (now tree) (now index) keys × Ready (now tree) (now scratch) st × IsOk (stmt (textsOf (now tree)) left (now tree) (st .at)) × (left ≤ 8) × (getD (now tree) (st .at) 0 ≡ 0) ⌝ }
+    ensures { λ r. ⌜ StmtWalked (now (tree .entry)) (now (index .entry)) keys left st (now (scratch .entry)) (now (out .entry)) r (now (scratch .entry)) (now (out .exit)) ⌝ }
+{
+    let at = st.at;
+    let sink = st.sink;
+    let marks = st.marks;
+    State {
+        at: at + 11,
+        sink,
+        marks,
+    }
+}
+
+// The operands of a barrier or a delay. The statement's span stands behind them.
+fn use_targets(
+    tree: &[u8],
+    index: &[u64],
+    scratch: &[u8],
+    out: &mut [u8],
+    depth: usize,
+    keys: usize,
+    marks: [u16; 256],
+    at: usize,
+    sink: Sink,
+) -> After
+    requires { ⌜ Walkable (now tree) (now index) keys × (65536 ≤ length (now scratch)) × (depth ≤ 9) × Placed (now tree) marks × SinkFits sink × IsOk (vec (operand (textsOf (now tree))) (now tree) at) × (nextOf (vec (operand (textsOf (now tree))) (now tree) at) + 8 ≤ length (now tree)) ⌝ }
+    ensures { λ r. ⌜ SaidOf (textsOf (now (tree .entry))) (useOperands (scopesOf (now (scratch .entry)) depth) (marksOf (now (tree .entry)) (keysIn (now (index .entry)) keys) marks) (spanAt (now (tree .entry)) (r .next))) (vec (operand (textsOf (now (tree .entry)))) (now (tree .entry)) at) sink (now (out .entry)) r (now (out .exit)) ⌝ }
+{
+    let next = skip_operands(tree, at);
+    let span = span_at(tree, next);
+    let s = operands::use_operands(
+        tree,
+        index,
+        scratch,
+        out,
+        depth,
+        keys,
+        marks,
+        at,
+        span,
+        sink,
+    );
+    After { next, sink: s }
+}
+
+// A barrier uses its operands.
+pub fn barrier(
+    tree: &[u8],
+    index: &[u64],
+    scratch: &[u8],
+    out: &mut [u8],
+    keys: usize,
+    left: usize,
+    st: State,
+) -> State
+    requires { ⌜ Walkable (now tree) (now index) keys × Ready (now tree) (now scratch) st × IsOk (stmt (textsOf (now tree)) left (now tree) (st .at)) × (left ≤ 8) × (getD (now tree) (st .at) 0 ≡ 10) ⌝ }
+    ensures { λ r. ⌜ StmtWalked (now (tree .entry)) (now (index .entry)) keys left st (now (scratch .entry)) (now (out .entry)) r (now (scratch .entry)) (now (out .exit)) ⌝ }
+{
+    let at = st.at;
+    let sink = st.sink;
+    let marks = st.marks;
+    let a = use_targets(
+        tree,
+        index,
+        scratch,
+        out,
+        9 - left,
+        keys,
+        marks,
+        at + 1,
+        sink,
+    );
+    let said = a.sink;
+    State {
+        at: a.next + 8,
+        sink: said,
+        marks,
+    }
+}
+
+// A delay: a numeric duration, and the operands it uses.
+pub fn delay(
+    tree: &[u8],
+    index: &[u64],
+    scratch: &[u8],
+    out: &mut [u8],
+    keys: usize,
+    left: usize,
+    st: State,
+) -> State
+    requires { ⌜ Walkable (now tree) (now index) keys × Ready (now tree) (now scratch) st × IsOk (stmt (textsOf (now tree)) left (now tree) (st .at)) × (left ≤ 8) × (getD (now tree) (st .at) 0 ≡ 11) ⌝ }
+    ensures { λ r. ⌜ StmtWalked (now (tree .entry)) (now (index .entry)) keys left st (now (scratch .entry)) (now (out .entry)) r (now (scratch .entry)) (now (out .exit)) ⌝ }
+{
+    let at = st.at;
+    let sink = st.sink;
+    let marks = st.marks;
+    let a = typing::require_numeric(
+        tree,
+        index,
+        scratch,
+        out,
+        9 - left,
+        at + 1,
+        Message::DelayNumeric,
+        sink,
+    );
+    let next = a.next;
+    let checked = a.sink;
+    let b = use_targets(
+        tree,
+        index,
+        scratch,
+        out,
+        9 - left,
+        keys,
+        marks,
+        next,
+        checked,
+    );
+    let said = b.sink;
+    State {
+        at: b.next + 8,
+        sink: said,
+        marks,
+    }
+}
+
+// A reset clears the marks of its operand.
+pub fn reset(
+    tree: &[u8],
+    index: &[u64],
+    scratch: &[u8],
+    out: &mut [u8],
+    keys: usize,
+    left: usize,
+    st: State,
+) -> State
+    requires { ⌜ Walkable (now tree) (now index) keys × Ready (now tree) (now scratch) st × IsOk (stmt (textsOf (now tree)) left (now tree) (st .at)) × (left ≤ 8) × (getD (now tree) (st .at) 0 ≡ 9) ⌝ }
+    ensures { λ r. ⌜ StmtWalked (now (tree .entry)) (now (index .entry)) keys left st (now (scratch .entry)) (now (out .entry)) r (now (scratch .entry)) (now (out .exit)) ⌝ }
+{
+    let at = st.at;
+    let sink = st.sink;
+    let marks = st.marks;
+    let r = operand_at(tree, at + 1);
+    let op = r.operand;
+    let said = operands::check_operand(
+        tree,
+        index,
+        scratch,
+        out,
+        9 - left,
+        op,
+        Expected::Qubit,
+        sink,
+    );
+    let cleared = sheet::clear(marks, index, keys, op);
+    State {
+        at: r.next + 8,
+        sink: said,
+        marks: cleared,
+    }
+}
+
+// A measurement: its operands, and the marks that it sets.
+pub fn measure(
+    tree: &[u8],
+    index: &[u64],
+    scratch: &[u8],
+    out: &mut [u8],
+    keys: usize,
+    left: usize,
+    st: State,
+) -> State
+    requires { ⌜ Walkable (now tree) (now index) keys × Ready (now tree) (now scratch) st × IsOk (stmt (textsOf (now tree)) left (now tree) (st .at)) × (left ≤ 8) × (getD (now tree) (st .at) 0 ≡ 8) ⌝ }
+    requires { ⌜ StmtKeyed (keysIn (now index) keys) (scopesOf (now scratch) (9 - left)) (stmt (textsOf (now tree)) left (now tree) (st .at)) ⌝ }
+    ensures { λ r. ⌜ StmtWalked (now (tree .entry)) (now (index .entry)) keys left st (now (scratch .entry)) (now (out .entry)) r (now (scratch .entry)) (now (out .exit)) ⌝ }
+{
+    let at = st.at;
+    let sink = st.sink;
+    let marks = st.marks;
+    let q = operand_at(tree, at + 1);
+    let qubit = q.operand;
+    let k = q.next;
+    let a = check_measure(
+        tree,
+        index,
+        scratch,
+        out,
+        9 - left,
+        keys,
+        marks,
+        qubit,
+        k,
+        sink,
+    );
+    let said = a.sink;
+    let marked = mark_measured(index, scratch, 9 - left, keys, marks, qubit, at);
+    State {
+        at: a.next + 8,
+        sink: said,
+        marks: marked,
+    }
+}
+
+// A gate call: its arity, its modifiers and parameters, and its operands.
+pub fn gate_call(
+    tree: &[u8],
+    index: &[u64],
+    scratch: &[u8],
+    out: &mut [u8],
+    keys: usize,
+    left: usize,
+    st: State,
+) -> State
+    requires { ⌜ Walkable (now tree) (now index) keys × Ready (now tree) (now scratch) st × IsOk (stmt (textsOf (now tree)) left (now tree) (st .at)) × (left ≤ 8) × (getD (now tree) (st .at) 0 ≡ 5) ⌝ }
+    ensures { λ r. ⌜ StmtWalked (now (tree .entry)) (now (index .entry)) keys left st (now (scratch .entry)) (now (out .entry)) r (now (scratch .entry)) (now (out .exit)) ⌝ }
+{
+    let at = st.at;
+    let sink = st.sink;
+    let marks = st.marks;
+    let call = call_at(tree, at, left);
+    let named = check_signature(tree, index, scratch, out, call, sink);
+    let checked = check_values(tree, index, scratch, out, 9 - left, at + 3, named);
+    let args_at = call.args_at;
+    let span = call.span;
+    let said = check_args(
+        tree,
+        index,
+        scratch,
+        out,
+        9 - left,
+        keys,
+        marks,
+        args_at,
+        span,
+        checked,
+    );
+    State {
+        at: call.end + 8,
+        sink: said,
+        marks,
+    }
+}
