@@ -1,0 +1,36 @@
+-- `declarations::classical_decl` meets its contract. Assumes nothing.
+use native.Mathlib.Omega.{arith}
+use borrow.Author.Needs.{needs}
+use Rattle.declarations.proofs.Declares.{room-kept}
+use Rattle.declarations.proofs.Classical.{classical-walked}
+use Rattle.declarations.proofs.classical_decl.Statement.{statement}
+use Rattle.declarations.proofs.classical_decl.Tie as tie
+
+declare-requires : tie.Need-declare-requires
+declare-requires c κs =
+    let s = c .before .before .before .before .before .before .before .before .before .before .before in
+    (record { texts = s .pre .0 .texts; room = s .pre .1 .room; deep = omega arith; fits = s .pre .1 .fits }, omega arith, c .before .before .before .before .declaration-at .ensures .named)
+
+check-classical-requires : tie.Need-check-classical-requires
+check-classical-requires c κs =
+    let s = c .before .before .before .before .before .before .before .before .before .before .before .before .before .before .before .before .before .before in
+    let b = c .before .before .before .before .before .before .declare .ensures in
+    (record { texts = s .pre .0 .texts; room = room-kept (b .becomes) (s .pre .1 .room); deep = omega arith; fits = b .emitted .fits }, c .before .before .before .before .before .before .before .before .before .before .before .declaration-at .ensures .named, s .pre .2, s .pre .4)
+
+returns : tie.Need-returns
+returns c =
+    let s = c .before .before .before .before .before .before .before .before .before .before .before .before .before .before .before .before .before .before .before .before .before in
+    let d = c .before .before .before .before .before .before .before .before .before .before .before .before .before .before .declaration-at .ensures in
+    classical-walked _ _ _ _ _ (s .pre .2) (s .pre .4) _ _ (s .pre .1) _ (d .next) (d .after) (d .span _) (c .before .before .before .before .before .before .before .before .before .declare .ensures) (c .before .before .check-classical .ensures)
+
+pub classical-decl-spec : {M : Type 1} → statement M
+classical-decl-spec =
+    tie.close (tie.spec
+    (λ c κs. search needs)  -- declaration-at-requires
+    (λ c. search needs)  -- sub-declare
+    declare-requires
+    (λ c. search needs)  -- sub-check-classical
+    check-classical-requires
+    (λ c. search needs)  -- same-length
+    (λ c. search needs)  -- same-length-2
+    returns)
