@@ -1,0 +1,5 @@
+pub mod Keyed
+pub mod Loop
+pub mod Enclosed
+pub mod Cases
+pub mod Branches
