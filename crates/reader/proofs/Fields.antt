@@ -9,16 +9,12 @@ use Rattle.tree.specs.Texts.{isFloat, isPath}
 use Rattle.tree.specs.Exprs.{textNumber, name, exprs, constKind, binOp, compareOp, intLit, floatLit, boolLit, ident, index, call, const, neg, binary, compare}
 use Rattle.tree.specs.Stmts.{classicalType, qualifier, assignOp, slice, operand, held, ctrl, negCtrl, inv, pow, modifier, forRange, param, body, elseBody, include, qubitDecl, bitDecl, classicalDecl, assignment, gateCall, gateDef, functionDef, measure, reset, barrier, delay, branch, forLoop, whileLoop}
 use Rattle.reader.specs.Answers.{forget}
-use Rattle.reader.specs.declared.Read.{Read}
+use Rattle.reader.specs.declared.answers.Read.{Read}
 use Rattle.reader.proofs.Runs.{skip, runs, then, end, by}
 use Rattle.reader.proofs.Values.{one-of}
 
--- enums whose cases hold nothing
+-- an enum whose cases hold nothing
 module _ (s : List ℕ) (at : ℕ) (r : Read) where
-  pub type-is : r ≡ forget (caseByte 5 s at) → r ≡ forget (classicalType s at)
-  unfolding classicalType
-  type-is = by (one-of s at _ _) r
-
   pub qualifier-is : r ≡ forget (caseByte 3 s at) → r ≡ forget (qualifier s at)
   unfolding qualifier
   qualifier-is = by (one-of s at _ _) r
@@ -77,9 +73,9 @@ module _ (t : List Text) (s : List ℕ) (at : ℕ) (r : Read) where
   unfolding forRange
   range-is = by (then _ _ _ _ s at refl (λ _ k. then _ _ _ _ s k refl (λ _ m. then _ _ _ _ s m refl (λ _ n. end _ s n)))) r
 
-  pub param-is : r ≡ runs (skip classicalType ∷ skip (name t) ∷ []) s at → r ≡ forget (param t s at)
-  unfolding param
-  param-is = by (then _ _ _ _ s at refl (λ _ k. then _ _ _ _ s k refl (λ _ m. end _ s m))) r
+  pub param-is : r ≡ runs (skip (caseByte 5) ∷ skip (name t) ∷ []) s at → r ≡ forget (param t s at)
+  unfolding classicalType param
+  param-is = by (then _ _ (skip (caseByte 5)) _ s at (one-of s at _ _) (λ _ k. then _ _ _ _ s k refl (λ _ m. end _ s m))) r
 
   module _ (inner : Reader Expr) where
     pub call-is : r ≡ runs (skip (name t) ∷ skip (exprs inner) ∷ skip span ∷ []) s at → r ≡ forget (call t inner s at)
@@ -98,7 +94,7 @@ module _ (t : List Text) (s : List ℕ) (at : ℕ) (r : Read) where
     unfolding compare compareOp
     compare-is = by (then _ _ (skip (caseByte 6)) _ s at (one-of s at _ _) (λ _ k. then _ _ _ _ s k refl (λ _ m. then _ _ _ _ s m refl (λ _ n. then _ _ _ _ s n refl (λ _ o. end _ s o))))) r
 
-pub ruleset fields = (type-is, qualifier-is, int-lit-is, float-lit-is, bool-lit-is, ident-is, index-is, const-is, operand-is, ctrl-is, neg-ctrl-is, inv-is, pow-is, range-is, param-is, call-is, neg-is, binary-is, compare-is)
+pub ruleset fields = (qualifier-is, int-lit-is, float-lit-is, bool-lit-is, ident-is, index-is, const-is, operand-is, ctrl-is, neg-ctrl-is, inv-is, pow-is, range-is, param-is, call-is, neg-is, binary-is, compare-is)
 
 -- statements, behind the case byte at the place
 module _ (t : List Text) (s : List ℕ) (at : ℕ) (r : Read) where
@@ -114,9 +110,9 @@ module _ (t : List Text) (s : List ℕ) (at : ℕ) (r : Read) where
   unfolding bitDecl
   bit-decl-is = by (then _ _ _ _ s (at + 1) refl (λ _ k. then _ _ _ _ s k refl (λ _ m. then _ _ _ _ s m refl (λ _ n. end _ s n)))) r
 
-  pub classical-decl-is : r ≡ runs (skip (option qualifier) ∷ skip classicalType ∷ skip (name t) ∷ skip (option (held t)) ∷ skip span ∷ []) s (at + 1) → r ≡ forget (classicalDecl t at s (at + 1))
-  unfolding classicalDecl
-  classical-decl-is = by (then _ _ _ _ s (at + 1) refl (λ _ k. then _ _ _ _ s k refl (λ _ m. then _ _ _ _ s m refl (λ _ n. then _ _ _ _ s n refl (λ _ o. then _ _ _ _ s o refl (λ _ p. end _ s p)))))) r
+  pub classical-decl-is : r ≡ runs (skip (option qualifier) ∷ skip (caseByte 5) ∷ skip (name t) ∷ skip (option (held t)) ∷ skip span ∷ []) s (at + 1) → r ≡ forget (classicalDecl t at s (at + 1))
+  unfolding classicalType classicalDecl
+  classical-decl-is = by (then _ _ _ _ s (at + 1) refl (λ _ k. then _ _ (skip (caseByte 5)) _ s k (one-of s k _ _) (λ _ m. then _ _ _ _ s m refl (λ _ n. then _ _ _ _ s n refl (λ _ o. then _ _ _ _ s o refl (λ _ p. end _ s p)))))) r
 
   pub assignment-is : r ≡ runs (skip (name t) ∷ skip (caseByte 3) ∷ skip (held t) ∷ skip span ∷ []) s (at + 1) → r ≡ forget (assignment t at s (at + 1))
   unfolding assignment assignOp
@@ -126,9 +122,9 @@ module _ (t : List Text) (s : List ℕ) (at : ℕ) (r : Read) where
   unfolding gateCall
   gate-call-is = by (then _ _ _ _ s (at + 1) refl (λ _ k. then _ _ _ _ s k refl (λ _ m. then _ _ _ _ s m refl (λ _ n. then _ _ _ _ s n refl (λ _ o. then _ _ _ _ s o refl (λ _ p. end _ s p)))))) r
 
-  pub function-def-is : r ≡ runs (skip (name t) ∷ skip (vec (param t)) ∷ skip classicalType ∷ skip (held t) ∷ skip span ∷ []) s (at + 1) → r ≡ forget (functionDef t at s (at + 1))
-  unfolding functionDef
-  function-def-is = by (then _ _ _ _ s (at + 1) refl (λ _ k. then _ _ _ _ s k refl (λ _ m. then _ _ _ _ s m refl (λ _ n. then _ _ _ _ s n refl (λ _ o. then _ _ _ _ s o refl (λ _ p. end _ s p)))))) r
+  pub function-def-is : r ≡ runs (skip (name t) ∷ skip (vec (param t)) ∷ skip (caseByte 5) ∷ skip (held t) ∷ skip span ∷ []) s (at + 1) → r ≡ forget (functionDef t at s (at + 1))
+  unfolding classicalType functionDef
+  function-def-is = by (then _ _ _ _ s (at + 1) refl (λ _ k. then _ _ _ _ s k refl (λ _ m. then _ _ (skip (caseByte 5)) _ s m (one-of s m _ _) (λ _ n. then _ _ _ _ s n refl (λ _ o. then _ _ _ _ s o refl (λ _ p. end _ s p)))))) r
 
   pub measure-is : r ≡ runs (skip (operand t) ∷ skip (option (operand t)) ∷ skip span ∷ []) s (at + 1) → r ≡ forget (measure t at s (at + 1))
   unfolding measure
@@ -155,9 +151,9 @@ module _ (t : List Text) (s : List ℕ) (at : ℕ) (r : Read) where
     unfolding branch
     branch-is = by (then _ _ _ _ s (at + 1) refl (λ _ k. then _ _ _ _ s k refl (λ _ m. then _ _ _ _ s m refl (λ _ n. then _ _ _ _ s n refl (λ _ o. end _ s o))))) r
 
-    pub for-is : r ≡ runs (skip (name t) ∷ skip classicalType ∷ skip (forRange t) ∷ skip (body inner) ∷ skip span ∷ []) s (at + 1) → r ≡ forget (forLoop t inner at s (at + 1))
-    unfolding forLoop
-    for-is = by (then _ _ _ _ s (at + 1) refl (λ _ k. then _ _ _ _ s k refl (λ _ m. then _ _ _ _ s m refl (λ _ n. then _ _ _ _ s n refl (λ _ o. then _ _ _ _ s o refl (λ _ p. end _ s p)))))) r
+    pub for-is : r ≡ runs (skip (name t) ∷ skip (caseByte 5) ∷ skip (forRange t) ∷ skip (body inner) ∷ skip span ∷ []) s (at + 1) → r ≡ forget (forLoop t inner at s (at + 1))
+    unfolding classicalType forLoop
+    for-is = by (then _ _ _ _ s (at + 1) refl (λ _ k. then _ _ (skip (caseByte 5)) _ s k (one-of s k _ _) (λ _ m. then _ _ _ _ s m refl (λ _ n. then _ _ _ _ s n refl (λ _ o. then _ _ _ _ s o refl (λ _ p. end _ s p)))))) r
 
     pub while-is : r ≡ runs (skip (held t) ∷ skip (body inner) ∷ skip span ∷ []) s (at + 1) → r ≡ forget (whileLoop t inner at s (at + 1))
     unfolding whileLoop

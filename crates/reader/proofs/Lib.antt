@@ -1,3 +1,5 @@
+pub mod Taken
+pub mod Leaves
 pub mod Runs
 pub mod Values
 pub mod Spelled

@@ -1,5 +1,5 @@
 -- Text numbers: a law for each way out of the code. Assumes nothing.
-use Prim.Native.Nat.{ℕ, _<_, _≤_, _+_, _*_}
+use Prim.Native.Nat.{ℕ, _<_, _≤_}
 use mathlib.Core.Path.{_≡_, refl, sym, ap, _∙_}
 use mathlib.Core.List.{List, [], _∷_}
 use mathlib.Core.Bool.{Bool, true, false, _&&_, and-false, false≢true}
@@ -9,66 +9,108 @@ use lib.ListN.{length, getD, length-map, List·getD-map}
 use lib.Dec.{eqb, ltb, leb}
 use borrow.Author.Tests.{lt-ltb, le-ltb, eq-eqb, ne-eqb, lt-leb}
 use Rattle.ast.specs.Tree.{Text}
-use Rattle.tree.specs.Ans.{bind, _>>=_, _>>_, done, here, refuse, check}
+use Rattle.tree.specs.Ans.{Ans, ok, refused, bind, _>>=_, _>>_, done, here, refuse, check}
 use Rattle.tree.specs.Read.{number}
 use Rattle.tree.specs.Texts.{letter, digit, isName, isFloat, isPath}
 use Rattle.tree.specs.Exprs.{textNumber}
-use Rattle.tree.proofs.Steps.{number-in, number-end, two}
-use Rattle.reader.specs.Answers.{forget}
+use Rattle.reader.specs.Answers.{gaveNumber, gaveText, numberAnswer}
 use Rattle.reader.specs.Section.{kindBy, kindOf, ofKind, kindsOf}
 use Rattle.tree.specs.Decode.{textsOf}
-use Rattle.reader.specs.declared.Read.{Read}
-use Rattle.reader.specs.declared.Read.the-variants.{At, Refused}
-use Rattle.reader.proofs.Values.{le-or-lt, bind-refused, number-there, number-next}
+use Rattle.reader.specs.declared.answers.ReadNumber.{ReadNumber}
+use Rattle.reader.specs.declared.answers.ReadText.{ReadText}
+use Rattle.reader.proofs.Taken.{number-same, text-ok, text-not}
+use Rattle.reader.proofs.Leaves.{le-or-lt}
+use Rattle.reader.proofs.Values.{never-ok}
 use Rattle.reader.proofs.Spelled.{letter-below}
 
--- a number and the two tests on it
-module _ (t : List Text) (spelled : Text → Bool) (s : List ℕ) (at : ℕ) where
-  pub text-number-refused : (r : Read) (m place : ℕ) → r ≡ forget (number 2 s at) → r ≡ Refused m place → r ≡ forget (textNumber t spelled s at)
-  unfolding textNumber here _>>=_ bind
-  text-number-refused r m place e h = bind-refused _ _ r m place e h
+-- the tests on a number
+abbrev judged : List Text → (Text → Bool) → ℕ → List ℕ → ℕ → ℕ → Ans ℕ
+judged t spelled at s n next = _>>_ (check (ltb n (length t)) 4 at) (_>>_ (check (spelled (getD t n [])) 4 at) (done n)) s next
 
-  text-number-in : (n : ℕ) → at + 2 ≤ length s → n ≡ getD s at 0 * 256 + getD s (at + 1) 0
-      → textNumber t spelled s at ≡ _>>_ (check (ltb n (length t)) 4 at) (_>>_ (check (spelled (getD t n [])) 4 at) (done n)) s (at + 2)
+module _ (t : List Text) (s : List ℕ) (at : ℕ) where
+  -- spelled the same way for every text, read the same way
+  spelled-alike : (p q : Text → Bool) → ((x : Text) → p x ≡ q x) → textNumber t p s at ≡ textNumber t q s at
   unfolding textNumber here _>>=_ bind
-  text-number-in n h e = rw (number-in s at 2 h, two s at h, sym e)
+  spelled-alike p q h = go (number 2 s at)
+    where
+      go : (x : Ans ℕ) → bind x (λ n next. judged t p at s n next) ≡ bind x (λ n next. judged t q at s n next)
+      go (ok n next) = rw (h (getD t n []))
+      go (refused m place) = refl
 
--- the kinds of the texts, as the code looks them up
-module _ (s kinds : List ℕ) (known : kinds ≡ kindsOf s) (at n : ℕ) (here : n ≡ getD s at 0 * 256 + getD s (at + 1) 0) (a : Read) (k : ℕ) (read : a ≡ forget (number 2 s at)) (g : a ≡ At k) where
+  -- first any text, then the spelling
+  spelled-after : (spelled : Text → Bool) → textNumber t spelled s at ≡ bind (textNumber t isPath s at) (λ n next. _>>_ (check (spelled (getD t n [])) 4 at) (done n) s next)
+  unfolding textNumber isPath here check done refuse _>>=_ _>>_ bind
+  spelled-after spelled = go (number 2 s at)
+    where
+      far : (n next : ℕ) (b : Bool) → bind (check b 4 at s next) (λ u k. _>>_ (check (spelled (getD t n [])) 4 at) (done n) s k) ≡ bind (bind (check b 4 at s next) (λ u k. ok n k)) (λ n k. _>>_ (check (spelled (getD t n [])) 4 at) (done n) s k)
+      far n next true = refl
+      far n next false = refl
+
+      go : (x : Ans ℕ) → bind x (λ n next. judged t spelled at s n next) ≡ bind (bind x (λ n next. judged t isPath at s n next)) (λ n next. _>>_ (check (spelled (getD t n [])) 4 at) (done n) s next)
+      go (ok n next) = far n next (ltb n (length t))
+      go (refused m place) = refl
+
+-- the number of texts, as the code knows it
+module _ (s kinds : List ℕ) (known : kinds ≡ kindsOf s) where
   count-known : length kinds ≡ length (textsOf s)
   unfolding kindsOf
   count-known = ap length known ∙ length-map (textsOf s) kindOf
 
-  pub number-far : (spelled : Text → Bool) → length kinds ≤ n → Refused 4 at ≡ forget (textNumber (textsOf s) spelled s at)
-  unfolding check refuse _>>_ bind forget
-  number-far spelled h =
-      let l : length (textsOf s) ≤ n = omega (arith, count-known) in
-      rw (text-number-in (textsOf s) spelled s at n (number-there s at 2 a k read g) here, le-ltb n (length (textsOf s)) l)
+  -- any text
+  module _ (at : ℕ) (y : ReadNumber) (u : y ≡ gaveNumber (number 2 s at)) (a : ReadText) (read : a ≡ gaveText (numberAnswer y)) where
+    as-text : a ≡ gaveText (number 2 s at)
+    as-text = read ∙ ap gaveText (ap numberAnswer u ∙ number-same (number 2 s at))
 
-  number-near : (spelled : Text → Bool) → n < length kinds → textNumber (textsOf s) spelled s at ≡ _>>_ (check (spelled (getD (textsOf s) n [])) 4 at) (done n) s k
-  unfolding check done _>>_ bind
-  number-near spelled h =
-      let l : n < length (textsOf s) = omega (arith, count-known) in
-      rw (text-number-in (textsOf s) spelled s at n (number-there s at 2 a k read g) here, lt-ltb n (length (textsOf s)) l, number-next s at 2 a k read g)
+    pub path-refused : (m p : ℕ) → a ≡ ReadText.Refused m p → a ≡ gaveText (textNumber (textsOf s) isPath s at)
+    unfolding textNumber here _>>=_ bind gaveText
+    path-refused m p g = g ∙ rw (text-not a (number 2 s at) as-text m p g)
 
-  pub path-read : n < length kinds → At k ≡ forget (textNumber (textsOf s) isPath s at)
-  unfolding isPath check done _>>_ bind forget
-  path-read h = rw (number-near isPath h)
+    module _ (n k : ℕ) (g : a ≡ ReadText.At n k) where
+      pub path-far : length kinds ≤ n → ReadText.Refused 4 at ≡ gaveText (textNumber (textsOf s) isPath s at)
+      unfolding textNumber here check refuse _>>=_ _>>_ bind gaveText
+      path-far h = rw (text-ok a (number 2 s at) as-text n k g, le-ltb n (length (textsOf s)) (omega (arith, count-known)))
 
-  kind-known : getD kinds n 0 ≡ kindOf (getD (textsOf s) n [])
-  unfolding kindsOf kindOf kindBy isName isFloat
-  kind-known = ap (λ (l : List ℕ). getD l n 0) known ∙ List·getD-map kindOf (textsOf s) n []
+      pub path-read : n < length kinds → ReadText.At n k ≡ gaveText (textNumber (textsOf s) isPath s at)
+      unfolding textNumber isPath here check done _>>=_ _>>_ bind gaveText
+      path-read h = rw (text-ok a (number 2 s at) as-text n k g, lt-ltb n (length (textsOf s)) (omega (arith, count-known)))
 
-  module _ (kind : ℕ) (h : n < length kinds) where
-    pub spelled-read : getD kinds n 0 ≡ kind → At k ≡ forget (textNumber (textsOf s) (ofKind kind) s at)
-    unfolding ofKind check done _>>_ bind forget
-    spelled-read e = rw (number-near (ofKind kind) h, eq-eqb (kindOf (getD (textsOf s) n [])) kind (sym kind-known ∙ e))
+  -- a text of a kind
+  module _ (at : ℕ) (a : ReadText) (read : a ≡ gaveText (textNumber (textsOf s) isPath s at)) (kind : ℕ) where
+    pub spelled-refused : (m p : ℕ) → a ≡ ReadText.Refused m p → a ≡ gaveText (textNumber (textsOf s) (ofKind kind) s at)
+    unfolding bind gaveText
+    spelled-refused m p g = g ∙ rw (spelled-after (textsOf s) s at (ofKind kind), text-not a (textNumber (textsOf s) isPath s at) read m p g)
 
-    pub spelled-other : (getD kinds n 0 ≡ kind → ⊥) → Refused 4 at ≡ forget (textNumber (textsOf s) (ofKind kind) s at)
-    unfolding ofKind check refuse _>>_ bind forget
-    spelled-other e = rw (number-near (ofKind kind) h, ne-eqb (kindOf (getD (textsOf s) n [])) kind (λ f. e (kind-known ∙ f)))
+    module _ (n k : ℕ) (g : a ≡ ReadText.At n k) where
+      kind-known : getD kinds n 0 ≡ kindOf (getD (textsOf s) n [])
+      unfolding kindsOf kindOf kindBy isName isFloat
+      kind-known = ap (λ (l : List ℕ). getD l n 0) known ∙ List·getD-map kindOf (textsOf s) n []
 
-pub ruleset text-numbers = (text-number-refused, number-far, path-read, spelled-read, spelled-other)
+      pub spelled-read : getD kinds n 0 ≡ kind → ReadText.At n k ≡ gaveText (textNumber (textsOf s) (ofKind kind) s at)
+      unfolding ofKind check done _>>_ bind gaveText
+      spelled-read e = rw (spelled-after (textsOf s) s at (ofKind kind), text-ok a (textNumber (textsOf s) isPath s at) read n k g, eq-eqb (kindOf (getD (textsOf s) n [])) kind (sym kind-known ∙ e))
+
+      pub spelled-other : (getD kinds n 0 ≡ kind → ⊥) → ReadText.Refused 4 at ≡ gaveText (textNumber (textsOf s) (ofKind kind) s at)
+      unfolding ofKind check refuse _>>_ bind gaveText
+      spelled-other e = rw (spelled-after (textsOf s) s at (ofKind kind), text-ok a (textNumber (textsOf s) isPath s at) read n k g, ne-eqb (kindOf (getD (textsOf s) n [])) kind (λ f. e (kind-known ∙ f)))
+
+  -- a text number that was read is below the number of texts
+  module _ (at : ℕ) (a : ReadText) (read : a ≡ gaveText (textNumber (textsOf s) isPath s at)) (n k : ℕ) (g : a ≡ ReadText.At n k) where
+    pub path-near : n < length kinds
+    unfolding textNumber isPath here check done refuse _>>=_ _>>_ bind
+    path-near = rw count-known (go (number 2 s at) (text-ok a (textNumber (textsOf s) isPath s at) read n k g))
+      where
+        near : (m next : ℕ) → (length (textsOf s) ≤ m) ⊎ (m < length (textsOf s)) → judged (textsOf s) isPath at s m next ≡ ok n k → n < length (textsOf s)
+        near m next (inl h) e = absurd (never-ok {number = 4} {place = at} e (rw (le-ltb m (length (textsOf s)) h)))
+        near m next (inr h) e =
+            let f : ok m next ≡ ok n k = rw (lt-ltb m (length (textsOf s)) h) at e in
+            let z : m ≡ n = cc in
+            rw z at h
+
+        go : (x : Ans ℕ) → bind x (λ n next. judged (textsOf s) isPath at s n next) ≡ ok n k → n < length (textsOf s)
+        go (ok m next) e = near m next (le-or-lt _ _) e
+        go (refused m p) e = absurd (never-ok e refl)
+
+pub ruleset text-numbers = (path-refused, path-far, path-read, path-near, spelled-refused, spelled-read, spelled-other)
 
 -- a kind says the spelling
 name-kind : (a b : Bool) → eqb (kindBy a b) 1 ≡ a
@@ -100,23 +142,13 @@ no-float (c ∷ cs) h = rw (not-digit c (and-first (letter c) _ h))
     and-first true b e = refl
     and-first false b e = e
 
--- spelled the same way for every text, read the same way
-module _ (s : List ℕ) (at : ℕ) where
-  spelled-alike : (t : List Text) (p q : Text → Bool) → ((x : Text) → p x ≡ q x) → forget (textNumber t p s at) ≡ forget (textNumber t q s at)
-  unfolding forget
-  spelled-alike t p q h = go (le-or-lt (at + 2) (length s))
-    where
-      go : (at + 2 ≤ length s) ⊎ (length s < at + 2) → forget (textNumber t p s at) ≡ forget (textNumber t q s at)
-      go (inl l) = rw (text-number-in t p s at _ l refl, text-number-in t q s at _ l refl, h (getD t (getD s at 0 * 256 + getD s (at + 1) 0) []))
-      go (inr l) =
-          sym (text-number-refused t p s at (Refused 3 (length s)) 3 (length s) (sym (ap forget (number-end s at 2 l))) refl) ∙ text-number-refused t q s at (Refused 3 (length s)) 3 (length s) (sym (ap forget (number-end s at 2 l))) refl
-
-  pub name-is : (t : List Text) (r : Read) → r ≡ forget (textNumber t (ofKind 1) s at) → r ≡ forget (textNumber t isName s at)
+module _ (s : List ℕ) (at : ℕ) (t : List Text) (r : ReadText) where
+  pub name-is : r ≡ gaveText (textNumber t (ofKind 1) s at) → r ≡ gaveText (textNumber t isName s at)
   unfolding kindOf ofKind
-  name-is t r e = e ∙ spelled-alike t (ofKind 1) isName (λ x. name-kind (isName x) (isFloat x))
+  name-is e = e ∙ ap gaveText (spelled-alike t s at (ofKind 1) isName (λ x. name-kind (isName x) (isFloat x)))
 
-  pub float-is : (t : List Text) (r : Read) → r ≡ forget (textNumber t (ofKind 2) s at) → r ≡ forget (textNumber t isFloat s at)
+  pub float-is : r ≡ gaveText (textNumber t (ofKind 2) s at) → r ≡ gaveText (textNumber t isFloat s at)
   unfolding kindOf ofKind
-  float-is t r e = e ∙ spelled-alike t (ofKind 2) isFloat (λ x. float-kind (isName x) (isFloat x) (no-float x))
+  float-is e = e ∙ ap gaveText (spelled-alike t s at (ofKind 2) isFloat (λ x. float-kind (isName x) (isFloat x) (no-float x)))
 
 pub ruleset names = (name-is, float-is)

@@ -4,9 +4,15 @@ use Prim.Native.Nat.{ℕ}
 use mathlib.Core.Path.{_≡_, refl, sym, _∙_}
 use mathlib.Core.List.{List, [], _∷_}
 use Rattle.tree.specs.Ans.{Ans, ok, refused, Reader, bind, _>>=_, done}
-use Rattle.reader.specs.Answers.{forget}
-use Rattle.reader.specs.declared.Read.{Read}
-use Rattle.reader.specs.declared.Read.the-variants.{At, Refused}
+use Rattle.tree.specs.Read.{span}
+use Rattle.reader.specs.Answers.{forget, gaveByte, gaveNumber, gaveText, gaveSpan, byteAnswer, numberAnswer, textAnswer, spanAnswer}
+use Rattle.reader.specs.declared.answers.Read.{Read}
+use Rattle.reader.specs.declared.answers.Read.the-variants.{At, Refused}
+use Rattle.reader.specs.declared.answers.ReadByte.{ReadByte}
+use Rattle.reader.specs.declared.answers.ReadNumber.{ReadNumber}
+use Rattle.reader.specs.declared.answers.ReadText.{ReadText}
+use Rattle.reader.specs.declared.answers.ReadSpan.{ReadSpan}
+use Rattle.reader.proofs.Taken.{byte-left, byte-refused, byte-at, number-left, number-refused, number-at, text-left, text-refused, text-at, span-left}
 
 abbrev pub Skip : Type 0
 Skip = List ℕ → ℕ → Read
@@ -40,7 +46,40 @@ module _ (p : Skip) (s : List ℕ) (at : ℕ) where
   unfolding runs after
   runs-more ps a r k e h g = rw (sym e, h) g
 
-pub ruleset runs-laws = (runs-refused, runs-last, runs-more)
+-- the same where the read answers its value too
+module _ (p : Reader ℕ) (s : List ℕ) (at : ℕ) (ps : List Skip) (r : Read) where
+  pub byte-stops : (a : ReadByte) (m q : ℕ) → a ≡ gaveByte (p s at) → a ≡ ReadByte.Refused m q → r ≡ forget (byteAnswer a) → r ≡ runs (skip p ∷ ps) s at
+  byte-stops a m q e g h = runs-refused (skip p) s at ps r m q (byte-left a (p s at) e r h) (byte-refused a m q g r h)
+
+  pub byte-more : (a : ReadByte) (v k : ℕ) → a ≡ gaveByte (p s at) → a ≡ ReadByte.At v k → r ≡ runs ps s k → r ≡ runs (skip p ∷ ps) s at
+  byte-more a v k e g h = runs-more (skip p) s at ps (forget (p s at)) r k refl (byte-at a (p s at) e v k g) h
+
+  pub number-stops : (a : ReadNumber) (m q : ℕ) → a ≡ gaveNumber (p s at) → a ≡ ReadNumber.Refused m q → r ≡ forget (numberAnswer a) → r ≡ runs (skip p ∷ ps) s at
+  number-stops a m q e g h = runs-refused (skip p) s at ps r m q (number-left a (p s at) e r h) (number-refused a m q g r h)
+
+  pub number-more : (a : ReadNumber) (v k : ℕ) → a ≡ gaveNumber (p s at) → a ≡ ReadNumber.At v k → r ≡ runs ps s k → r ≡ runs (skip p ∷ ps) s at
+  number-more a v k e g h = runs-more (skip p) s at ps (forget (p s at)) r k refl (number-at a (p s at) e v k g) h
+
+  pub text-stops : (a : ReadText) (m q : ℕ) → a ≡ gaveText (p s at) → a ≡ ReadText.Refused m q → r ≡ forget (textAnswer a) → r ≡ runs (skip p ∷ ps) s at
+  text-stops a m q e g h = runs-refused (skip p) s at ps r m q (text-left a (p s at) e r h) (text-refused a m q g r h)
+
+  pub text-more : (a : ReadText) (v k : ℕ) → a ≡ gaveText (p s at) → a ≡ ReadText.At v k → r ≡ runs ps s k → r ≡ runs (skip p ∷ ps) s at
+  text-more a v k e g h = runs-more (skip p) s at ps (forget (p s at)) r k refl (text-at a (p s at) e v k g) h
+
+module _ (p : Reader ℕ) (s : List ℕ) (at : ℕ) (r : Read) where
+  pub number-last : (a : ReadNumber) → a ≡ gaveNumber (p s at) → r ≡ forget (numberAnswer a) → r ≡ runs (skip p ∷ []) s at
+  number-last a e h = runs-last (skip p) s at r (number-left a (p s at) e r h)
+
+  pub text-last : (a : ReadText) → a ≡ gaveText (p s at) → r ≡ forget (textAnswer a) → r ≡ runs (skip p ∷ []) s at
+  text-last a e h = runs-last (skip p) s at r (text-left a (p s at) e r h)
+
+pub span-last : (s : List ℕ) (at : ℕ) (r : Read) (a : ReadSpan) → a ≡ gaveSpan (span s at) → r ≡ forget (spanAnswer a) → r ≡ runs (skip span ∷ []) s at
+span-last s at r a e h = runs-last (skip span) s at r (span-left a (span s at) e r h)
+
+-- the ways out of a run where a read is refused, and where all are made
+pub ruleset runs-stop = (runs-refused, runs-more, byte-stops, byte-more, number-stops, number-more, text-stops, text-more)
+
+pub ruleset runs-end = (runs-last, runs-more, byte-more, number-more, number-last, text-more, text-last, span-last)
 
 -- a `do` block, part by part
 pub then : {A B : Type 0} (p : Reader A) (f : A → Reader B) (q : Skip) (ps : List Skip) (s : List ℕ) (at : ℕ)

@@ -3,12 +3,15 @@ use mathlib.Core.Path.{_≡_}
 use Prim.Native.Nat.{ℕ, zero, suc, _+_}
 use mathlib.Core.List.{List, [], _∷_, map}
 use mathlib.Core.Bool.{Bool, true, false}
-use lib.Dec.{eqb}
+use lib.Dec.{eqb, leb}
 use lib.ListN.{length, getD, take, drop}
 use Rattle.ast.specs.Tree.{Text}
+use Rattle.tree.specs.Limits.{textsLimit}
+use Rattle.tree.specs.Ans.{Reader, _>>=_, _>>_, done, here, check}
+use Rattle.tree.specs.Read.{u16}
 use Rattle.tree.specs.Texts.{isName, isFloat, texts}
 use Rattle.tree.specs.Decode.{textsOf}
-use Rattle.reader.specs.declared.Read.{Read}
+use Rattle.reader.specs.declared.answers.Read.{Read}
 use Rattle.reader.specs.Answers.{forget}
 
 -- the text whose length byte is at the place, and the place past it
@@ -42,7 +45,16 @@ ofKind kind x = eqb (kindOf x) kind
 unfoldable pub kindsOf : List ℕ → List ℕ
 kindsOf s = map kindOf (textsOf s)
 
--- what reading the texts answers, and the kinds that it leaves in the first places
-pub record Gathered (s kinds : List ℕ) (r : Read) : Type 0 where
+-- the count of the texts, as `texts` begins
+unfoldable pub textCount : Reader ℕ
+textCount = do
+  at ← here
+  n ← u16
+  check (leb n textsLimit) 5 at
+  done n
+
+-- what reading `n` texts answers, and the kinds that it leaves in the first places
+pub record Gathered (s kinds : List ℕ) (n : ℕ) (r : Read) : Type 0 where
   pub answer : r ≡ forget (texts s 0)
-  pub stored : take (length (textsOf s)) kinds ≡ kindsOf s
+  pub stored : (k : ℕ) → r ≡ Read.At k → take n kinds ≡ kindsOf s
+  pub long : length kinds ≡ 256

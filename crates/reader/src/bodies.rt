@@ -1,11 +1,13 @@
 // Statements and their bodies; `left` is how many levels are left.
-use crate::Read;
+use crate::answers::Read;
+use crate::answers::ReadByte;
+use crate::answers::ReadNumber;
+use crate::answers::ReadText;
 use crate::exprs::read_held;
 use crate::numbers::FLAGS;
 use crate::numbers::read_case;
 use crate::numbers::read_span;
 use crate::numbers::read_u16;
-use crate::numbers::two;
 use crate::parts::read_names;
 use crate::parts::read_range;
 use crate::parts::read_type;
@@ -27,8 +29,8 @@ fn read_gate_def(s: &[u8], kinds: &[u8], at: usize, left: usize) -> Read
     ensures { λ r. ⌜ r ≡ forget (gateDef (textsOf (now (s .entry))) (stmt (textsOf (now (s .entry))) left) at (now (s .entry)) (at + 1)) ⌝ }
 {
     let a = read_name(s, kinds, at + 1);
-    let Read::At(k) = a else {
-        return a;
+    let ReadText::At(_, k) = a else {
+        return a.into_read();
     };
     let b = read_names(s, kinds, k);
     let Read::At(l) = b else {
@@ -42,7 +44,7 @@ fn read_gate_def(s: &[u8], kinds: &[u8], at: usize, left: usize) -> Read
     let Read::At(n) = d else {
         return d;
     };
-    read_span(s, n)
+    read_span(s, n).into_read()
 }
 
 fn read_if(s: &[u8], kinds: &[u8], at: usize, left: usize) -> Read
@@ -62,7 +64,7 @@ fn read_if(s: &[u8], kinds: &[u8], at: usize, left: usize) -> Read
     let Read::At(m) = c else {
         return c;
     };
-    read_span(s, m)
+    read_span(s, m).into_read()
 }
 
 fn read_for(s: &[u8], kinds: &[u8], at: usize, left: usize) -> Read
@@ -71,12 +73,12 @@ fn read_for(s: &[u8], kinds: &[u8], at: usize, left: usize) -> Read
     ensures { λ r. ⌜ r ≡ forget (forLoop (textsOf (now (s .entry))) (stmt (textsOf (now (s .entry))) left) at (now (s .entry)) (at + 1)) ⌝ }
 {
     let a = read_name(s, kinds, at + 1);
-    let Read::At(k) = a else {
-        return a;
+    let ReadText::At(_, k) = a else {
+        return a.into_read();
     };
     let b = read_type(s, k);
-    let Read::At(l) = b else {
-        return b;
+    let ReadByte::At(_, l) = b else {
+        return b.into_read();
     };
     let c = read_range(s, kinds, l);
     let Read::At(m) = c else {
@@ -86,7 +88,7 @@ fn read_for(s: &[u8], kinds: &[u8], at: usize, left: usize) -> Read
     let Read::At(n) = d else {
         return d;
     };
-    read_span(s, n)
+    read_span(s, n).into_read()
 }
 
 fn read_while(s: &[u8], kinds: &[u8], at: usize, left: usize) -> Read
@@ -102,7 +104,7 @@ fn read_while(s: &[u8], kinds: &[u8], at: usize, left: usize) -> Read
     let Read::At(l) = b else {
         return b;
     };
-    read_span(s, l)
+    read_span(s, l).into_read()
 }
 
 // A statement with so many levels left.
@@ -111,13 +113,13 @@ fn read_stmt(s: &[u8], kinds: &[u8], at: usize, left: usize) -> Read
     ensures { λ r. ⌜ r ≡ forget (stmt (textsOf (now (s .entry))) left (now (s .entry)) at) ⌝ }
 {
     let a = read_case(s, at, STMT_CASES);
-    let Read::At(_) = a else {
-        return a;
+    let ReadByte::At(b, _) = a else {
+        return a.into_read();
     };
     if left == 0 {
         return Read::Refused(6, at);
     }
-    match s[at] {
+    match b {
         0 => stmts::read_include(s, kinds, at),
         1 => stmts::read_qubit_decl(s, kinds, at),
         2 => stmts::read_bit_decl(s, kinds, at),
@@ -142,10 +144,10 @@ fn read_else(s: &[u8], kinds: &[u8], at: usize, left: usize) -> Read
     ensures { λ r. ⌜ r ≡ forget (elseBody (stmt (textsOf (now (s .entry))) left) (now (s .entry)) at) ⌝ }
 {
     let a = read_case(s, at, FLAGS);
-    let Read::At(k) = a else {
-        return a;
+    let ReadByte::At(b, k) = a else {
+        return a.into_read();
     };
-    if s[at] == 0 {
+    if b == 0 {
         return Read::At(k);
     }
     read_body(s, kinds, k, left)
@@ -157,11 +159,11 @@ pub fn read_body(s: &[u8], kinds: &[u8], at: usize, left: usize) -> Read
     ensures { λ r. ⌜ r ≡ forget (body (stmt (textsOf (now (s .entry))) left) (now (s .entry)) at) ⌝ }
 {
     let a = read_u16(s, at);
-    let Read::At(first) = a else {
-        return a;
+    let ReadNumber::At(n, first) = a else {
+        return a.into_read();
     };
     let mut k = first;
-    let mut i = two(s, at);
+    let mut i = n;
     while 0 < i {
         let b = read_stmt(s, kinds, k, left);
         let Read::At(next) = b else {

@@ -1,5 +1,8 @@
 // Expressions. A case's function starts behind the case byte; `left` is how many levels are left below.
-use crate::Read;
+use crate::answers::Read;
+use crate::answers::ReadByte;
+use crate::answers::ReadNumber;
+use crate::answers::ReadText;
 use crate::numbers::FLAGS;
 use crate::numbers::read_case;
 use crate::numbers::read_count;
@@ -29,10 +32,10 @@ fn read_int_lit(s: &[u8], at: usize) -> Read
     ensures { λ r. ⌜ r ≡ forget (intLit (textsOf (now (s .entry))) (now (s .entry)) at) ⌝ }
 {
     let a = read_u64(s, at);
-    let Read::At(k) = a else {
-        return a;
+    let ReadNumber::At(_, k) = a else {
+        return a.into_read();
     };
-    read_span(s, k)
+    read_span(s, k).into_read()
 }
 
 fn read_float_lit(s: &[u8], kinds: &[u8], at: usize) -> Read
@@ -40,20 +43,20 @@ fn read_float_lit(s: &[u8], kinds: &[u8], at: usize) -> Read
     ensures { λ r. ⌜ r ≡ forget (floatLit (textsOf (now (s .entry))) (now (s .entry)) at) ⌝ }
 {
     let a = read_float(s, kinds, at);
-    let Read::At(k) = a else {
-        return a;
+    let ReadText::At(_, k) = a else {
+        return a.into_read();
     };
-    read_span(s, k)
+    read_span(s, k).into_read()
 }
 
 fn read_bool_lit(s: &[u8], at: usize) -> Read
     ensures { λ r. ⌜ r ≡ forget (boolLit (textsOf (now (s .entry))) (now (s .entry)) at) ⌝ }
 {
     let a = read_case(s, at, FLAGS);
-    let Read::At(k) = a else {
-        return a;
+    let ReadByte::At(_, k) = a else {
+        return a.into_read();
     };
-    read_span(s, k)
+    read_span(s, k).into_read()
 }
 
 fn read_ident(s: &[u8], kinds: &[u8], at: usize) -> Read
@@ -61,10 +64,10 @@ fn read_ident(s: &[u8], kinds: &[u8], at: usize) -> Read
     ensures { λ r. ⌜ r ≡ forget (ident (textsOf (now (s .entry))) (now (s .entry)) at) ⌝ }
 {
     let a = read_name(s, kinds, at);
-    let Read::At(k) = a else {
-        return a;
+    let ReadText::At(_, k) = a else {
+        return a.into_read();
     };
-    read_span(s, k)
+    read_span(s, k).into_read()
 }
 
 fn read_index(s: &[u8], kinds: &[u8], at: usize) -> Read
@@ -72,24 +75,24 @@ fn read_index(s: &[u8], kinds: &[u8], at: usize) -> Read
     ensures { λ r. ⌜ r ≡ forget (index (textsOf (now (s .entry))) (now (s .entry)) at) ⌝ }
 {
     let a = read_name(s, kinds, at);
-    let Read::At(k) = a else {
-        return a;
+    let ReadText::At(_, k) = a else {
+        return a.into_read();
     };
     let b = read_u64(s, k);
-    let Read::At(l) = b else {
-        return b;
+    let ReadNumber::At(_, l) = b else {
+        return b.into_read();
     };
-    read_span(s, l)
+    read_span(s, l).into_read()
 }
 
 fn read_const(s: &[u8], at: usize) -> Read
     ensures { λ r. ⌜ r ≡ forget (const (textsOf (now (s .entry))) (now (s .entry)) at) ⌝ }
 {
     let a = read_case(s, at, CONST_KINDS);
-    let Read::At(k) = a else {
-        return a;
+    let ReadByte::At(_, k) = a else {
+        return a.into_read();
     };
-    read_span(s, k)
+    read_span(s, k).into_read()
 }
 
 fn read_call(s: &[u8], kinds: &[u8], at: usize, left: usize) -> Read
@@ -97,14 +100,14 @@ fn read_call(s: &[u8], kinds: &[u8], at: usize, left: usize) -> Read
     ensures { λ r. ⌜ r ≡ forget (call (textsOf (now (s .entry))) (expr (textsOf (now (s .entry))) left) (now (s .entry)) at) ⌝ }
 {
     let a = read_name(s, kinds, at);
-    let Read::At(k) = a else {
-        return a;
+    let ReadText::At(_, k) = a else {
+        return a.into_read();
     };
     let b = read_args(s, kinds, k, left);
     let Read::At(l) = b else {
         return b;
     };
-    read_span(s, l)
+    read_span(s, l).into_read()
 }
 
 fn read_neg(s: &[u8], kinds: &[u8], at: usize, left: usize) -> Read
@@ -115,7 +118,7 @@ fn read_neg(s: &[u8], kinds: &[u8], at: usize, left: usize) -> Read
     let Read::At(k) = a else {
         return a;
     };
-    read_span(s, k)
+    read_span(s, k).into_read()
 }
 
 fn read_binary(s: &[u8], kinds: &[u8], at: usize, left: usize) -> Read
@@ -123,8 +126,8 @@ fn read_binary(s: &[u8], kinds: &[u8], at: usize, left: usize) -> Read
     ensures { λ r. ⌜ r ≡ forget (binary (textsOf (now (s .entry))) (expr (textsOf (now (s .entry))) left) (now (s .entry)) at) ⌝ }
 {
     let a = read_case(s, at, BIN_OPS);
-    let Read::At(k) = a else {
-        return a;
+    let ReadByte::At(_, k) = a else {
+        return a.into_read();
     };
     let b = read_expr(s, kinds, k, left);
     let Read::At(l) = b else {
@@ -134,7 +137,7 @@ fn read_binary(s: &[u8], kinds: &[u8], at: usize, left: usize) -> Read
     let Read::At(m) = c else {
         return c;
     };
-    read_span(s, m)
+    read_span(s, m).into_read()
 }
 
 fn read_compare(s: &[u8], kinds: &[u8], at: usize, left: usize) -> Read
@@ -142,8 +145,8 @@ fn read_compare(s: &[u8], kinds: &[u8], at: usize, left: usize) -> Read
     ensures { λ r. ⌜ r ≡ forget (compare (textsOf (now (s .entry))) (expr (textsOf (now (s .entry))) left) (now (s .entry)) at) ⌝ }
 {
     let a = read_case(s, at, COMPARE_OPS);
-    let Read::At(k) = a else {
-        return a;
+    let ReadByte::At(_, k) = a else {
+        return a.into_read();
     };
     let b = read_expr(s, kinds, k, left);
     let Read::At(l) = b else {
@@ -153,7 +156,7 @@ fn read_compare(s: &[u8], kinds: &[u8], at: usize, left: usize) -> Read
     let Read::At(m) = c else {
         return c;
     };
-    read_span(s, m)
+    read_span(s, m).into_read()
 }
 
 // Expressions behind their count.
@@ -162,11 +165,11 @@ fn read_args(s: &[u8], kinds: &[u8], at: usize, left: usize) -> Read
     ensures { λ r. ⌜ r ≡ forget (exprs (expr (textsOf (now (s .entry))) left) (now (s .entry)) at) ⌝ }
 {
     let a = read_count(s, at);
-    let Read::At(first) = a else {
-        return a;
+    let ReadByte::At(n, first) = a else {
+        return a.into_read();
     };
     let mut k = first;
-    let mut i = s[at];
+    let mut i = n;
     while 0 < i {
         let b = read_expr(s, kinds, k, left);
         let Read::At(next) = b else {
@@ -184,13 +187,13 @@ fn read_expr(s: &[u8], kinds: &[u8], at: usize, left: usize) -> Read
     ensures { λ r. ⌜ r ≡ forget (expr (textsOf (now (s .entry))) left (now (s .entry)) at) ⌝ }
 {
     let a = read_case(s, at, EXPR_CASES);
-    let Read::At(k) = a else {
-        return a;
+    let ReadByte::At(b, k) = a else {
+        return a.into_read();
     };
     if left == 0 {
         return Read::Refused(6, at);
     }
-    match s[at] {
+    match b {
         0 => read_int_lit(s, k),
         1 => read_float_lit(s, kinds, k),
         2 => read_bool_lit(s, k),
@@ -224,10 +227,10 @@ pub fn read_optional_held(s: &[u8], kinds: &[u8], at: usize) -> Read
     ensures { λ r. ⌜ r ≡ forget (option (expr (textsOf (now (s .entry))) exprLevels) (now (s .entry)) at) ⌝ }
 {
     let a = read_case(s, at, FLAGS);
-    let Read::At(k) = a else {
-        return a;
+    let ReadByte::At(b, k) = a else {
+        return a.into_read();
     };
-    if s[at] == 0 {
+    if b == 0 {
         return Read::At(k);
     }
     read_held(s, kinds, k)

@@ -1,4 +1,5 @@
 // Validates the bytes of a tree file: what the decoder answers, without the tree.
+mod answers;
 mod bodies;
 mod exprs;
 mod numbers;
@@ -7,18 +8,14 @@ mod spelling;
 mod stmts;
 mod texts;
 
+use answers::Read;
+use answers::ReadNumber;
 ghost use mathlib.Core.Path.{_≡_};
 ghost use Rattle.tree.specs.Decode.{decode};
 ghost use Rattle.reader.specs.Answers.{forget, validated};
 
 pub enum Validated {
     Accepted,
-    Refused(u8, usize),
-}
-
-// What reading a value answers: the place past it, or a refusal's number and place.
-pub enum Read {
-    At(usize),
     Refused(u8, usize),
 }
 
@@ -42,15 +39,19 @@ fn read_file(s: &[u8]) -> Read
     if FILE_LIMIT < s.len() {
         return Read::Refused(2, FILE_LIMIT);
     }
-    let mut kinds = [0u8; texts::TEXTS_LIMIT];
-    let a = texts::read_texts(s, &mut kinds);
-    let Read::At(k) = a else {
-        return a;
+    let a = texts::read_text_count(s);
+    let ReadNumber::At(count, first) = a else {
+        return a.into_read();
     };
-    let n = numbers::two(s, 0);
-    let b = bodies::read_body(s, &kinds[..n], k, STMT_LEVELS);
-    let Read::At(end) = b else {
+    let n = numbers::size(count);
+    let mut kinds = [0u8; texts::TEXTS_LIMIT];
+    let b = texts::read_texts(s, first, n, &mut kinds);
+    let Read::At(k) = b else {
         return b;
+    };
+    let c = bodies::read_body(s, &kinds[..n], k, STMT_LEVELS);
+    let Read::At(end) = c else {
+        return c;
     };
     if end < s.len() {
         return Read::Refused(3, end);

@@ -1,11 +1,15 @@
 // The values that every part of the tree file is made of.
-use crate::Read;
+use crate::answers::Read;
+use crate::answers::ReadByte;
+use crate::answers::ReadNumber;
+use crate::answers::ReadSpan;
+use span::Span;
 ghost use mathlib.Core.Path.{_≡_};
-ghost use Prim.Native.Nat.{_≤_, _<_, _+_, _*_};
-ghost use lib.ListN.{length, getD};
-ghost use Rattle.tree.specs.Read.{number, u16, u64, span, caseByte, option, count};
+ghost use Prim.Native.Nat.{_≤_, _<_, _+_, _-_, _^_};
+ghost use lib.ListN.{length, take, drop};
+ghost use Rattle.tree.specs.Read.{value, byte, number, u16, u64, span, caseByte, option, count};
 ghost use Rattle.tree.specs.Stmts.{slice};
-ghost use Rattle.reader.specs.Answers.{forget};
+ghost use Rattle.reader.specs.Answers.{forget, gaveByte, gaveNumber, gaveSpan};
 
 const VEC_LIMIT: u8 = 16;
 
@@ -18,98 +22,141 @@ pub fn wide(x: u8) -> usize
     x as usize
 }
 
-// The two-byte number at a place.
-pub fn two(s: &[u8], at: usize) -> usize
-    requires { ⌜ at + 2 ≤ length (now s) ⌝ }
-    ensures { λ r. ⌜ r ≡ getD (now (s .entry)) at 0 * 256 + getD (now (s .entry)) (at + 1) 0 ⌝ }
+pub fn size(n: u64) -> usize
+    ensures { λ r. ⌜ r ≡ n ⌝ }
 {
-    wide(s[at]) * 256 + wide(s[at + 1])
+    n as usize
 }
 
-fn read_number(s: &[u8], at: usize, width: usize) -> Read
-    ensures { λ r. ⌜ r ≡ forget (number width (now (s .entry)) at) ⌝ }
+pub fn read_byte(s: &[u8], at: usize) -> ReadByte
+    ensures { λ r. ⌜ r ≡ gaveByte (byte (now (s .entry)) at) ⌝ }
 {
-    if s.len() < width {
-        return Read::Refused(3, s.len());
+    if s.len() <= at {
+        return ReadByte::Refused(3, s.len());
     }
-    if s.len() - width < at {
-        return Read::Refused(3, s.len());
+    ReadByte::At(s[at], at + 1)
+}
+
+// A byte below the number of cases.
+pub fn read_case(s: &[u8], at: usize, cases: u8) -> ReadByte
+    ensures { λ r. ⌜ r ≡ gaveByte (caseByte cases (now (s .entry)) at) ⌝ }
+{
+    let a = read_byte(s, at);
+    let ReadByte::At(b, k) = a else {
+        return a;
+    };
+    if b < cases {
+        return ReadByte::At(b, k);
     }
-    Read::At(at + width)
+    ReadByte::Refused(4, at)
+}
+
+// The count of a Vec.
+pub fn read_count(s: &[u8], at: usize) -> ReadByte
+    ensures { λ r. ⌜ r ≡ gaveByte (count (now (s .entry)) at) ⌝ }
+{
+    let a = read_byte(s, at);
+    let ReadByte::At(n, k) = a else {
+        return a;
+    };
+    if VEC_LIMIT < n {
+        return ReadByte::Refused(5, at);
+    }
+    ReadByte::At(n, k)
+}
+
+// How many bytes there are from a place on.
+pub fn bytes_from(s: &[u8], at: usize) -> usize
+    ensures { λ r. ⌜ r ≡ length (now (s .entry)) - at ⌝ }
+{
+    if s.len() < at {
+        return 0;
+    }
+    s.len() - at
+}
+
+// The number from one place to another, at most eight bytes: the first counts most.
+fn number_at(s: &[u8], at: usize, end: usize) -> u64
+    requires { ⌜ (at ≤ end) × (end ≤ at + 8) × (end ≤ length (now s)) ⌝ }
+    ensures { λ r. ⌜ (r ≡ value 0 (take (end - at) (drop at (now (s .entry))))) × (r < 256 ^ (end - at)) ⌝ }
+{
+    let mut n: u64 = 0;
+    let mut k = at;
+    while k < end {
+        n = n * 256 + wide(s[k]) as u64;
+        k += 1;
+    }
+    n
+}
+
+fn read_number(s: &[u8], at: usize, width: usize) -> ReadNumber
+    requires { ⌜ (0 < width) × (width ≤ 8) ⌝ }
+    ensures { λ r. ⌜ r ≡ gaveNumber (number width (now (s .entry)) at) ⌝ }
+{
+    if bytes_from(s, at) < width {
+        return ReadNumber::Refused(3, s.len());
+    }
+    let next = at + width;
+    ReadNumber::At(number_at(s, at, next), next)
 }
 
 // A text number, or a count of texts or statements.
-pub fn read_u16(s: &[u8], at: usize) -> Read
-    ensures { λ r. ⌜ r ≡ forget (u16 (now (s .entry)) at) ⌝ }
+pub fn read_u16(s: &[u8], at: usize) -> ReadNumber
+    ensures { λ r. ⌜ r ≡ gaveNumber (u16 (now (s .entry)) at) ⌝ }
 {
     read_number(s, at, 2)
 }
 
-pub fn read_u64(s: &[u8], at: usize) -> Read
-    ensures { λ r. ⌜ r ≡ forget (u64 (now (s .entry)) at) ⌝ }
+pub fn read_u64(s: &[u8], at: usize) -> ReadNumber
+    ensures { λ r. ⌜ r ≡ gaveNumber (u64 (now (s .entry)) at) ⌝ }
 {
     read_number(s, at, 8)
 }
 
-pub fn read_span(s: &[u8], at: usize) -> Read
-    ensures { λ r. ⌜ r ≡ forget (span (now (s .entry)) at) ⌝ }
+pub fn read_span(s: &[u8], at: usize) -> ReadSpan
+    ensures { λ r. ⌜ r ≡ gaveSpan (span (now (s .entry)) at) ⌝ }
 {
-    read_number(s, at, 8)
-}
-
-// A byte below the number of cases.
-pub fn read_case(s: &[u8], at: usize, cases: u8) -> Read
-    ensures { λ r. ⌜ r ≡ forget (caseByte cases (now (s .entry)) at) ⌝ }
-{
-    if s.len() <= at {
-        return Read::Refused(3, s.len());
+    if bytes_from(s, at) < 8 {
+        return ReadSpan::Refused(3, s.len());
     }
-    if s[at] < cases {
-        return Read::At(at + 1);
-    }
-    Read::Refused(4, at)
-}
-
-// The count of a Vec.
-pub fn read_count(s: &[u8], at: usize) -> Read
-    ensures { λ r. ⌜ r ≡ forget (count (now (s .entry)) at) ⌝ }
-{
-    if s.len() <= at {
-        return Read::Refused(3, s.len());
-    }
-    if VEC_LIMIT < s[at] {
-        return Read::Refused(5, at);
-    }
-    Read::At(at + 1)
+    let middle = at + 4;
+    let next = middle + 4;
+    let start = number_at(s, at, middle) as u32;
+    let end = number_at(s, middle, next) as u32;
+    ReadSpan::At(Span { start, end }, next)
 }
 
 pub fn read_optional_u64(s: &[u8], at: usize) -> Read
     ensures { λ r. ⌜ r ≡ forget (option u64 (now (s .entry)) at) ⌝ }
 {
     let a = read_case(s, at, FLAGS);
-    let Read::At(k) = a else {
-        return a;
+    let ReadByte::At(b, k) = a else {
+        return a.into_read();
     };
-    if s[at] == 0 {
+    if b == 0 {
         return Read::At(k);
     }
-    read_u64(s, k)
+    read_u64(s, k).into_read()
 }
 
 fn read_slice(s: &[u8], at: usize) -> Read
     ensures { λ r. ⌜ r ≡ forget (slice (now (s .entry)) at) ⌝ }
 {
-    read_number(s, at, 16)
+    let a = read_u64(s, at);
+    let ReadNumber::At(_, k) = a else {
+        return a.into_read();
+    };
+    read_u64(s, k).into_read()
 }
 
 pub fn read_optional_slice(s: &[u8], at: usize) -> Read
     ensures { λ r. ⌜ r ≡ forget (option slice (now (s .entry)) at) ⌝ }
 {
     let a = read_case(s, at, FLAGS);
-    let Read::At(k) = a else {
-        return a;
+    let ReadByte::At(b, k) = a else {
+        return a.into_read();
     };
-    if s[at] == 0 {
+    if b == 0 {
         return Read::At(k);
     }
     read_slice(s, k)

@@ -1,5 +1,7 @@
 // Operands, modifiers, ranges and parameters.
-use crate::Read;
+use crate::answers::Read;
+use crate::answers::ReadByte;
+use crate::answers::ReadText;
 use crate::exprs::read_held;
 use crate::exprs::read_optional_held;
 use crate::numbers::FLAGS;
@@ -10,10 +12,10 @@ use crate::numbers::read_optional_u64;
 use crate::numbers::read_span;
 use crate::texts::read_name;
 ghost use mathlib.Core.Path.{_≡_};
-ghost use Rattle.tree.specs.Read.{option, vec};
+ghost use Rattle.tree.specs.Read.{caseByte, option, vec};
 ghost use Rattle.tree.specs.Exprs.{name};
-ghost use Rattle.tree.specs.Stmts.{operand, ctrl, pow, modifier, forRange, param, classicalType, qualifier};
-ghost use Rattle.reader.specs.Answers.{forget};
+ghost use Rattle.tree.specs.Stmts.{operand, ctrl, pow, modifier, forRange, param, qualifier};
+ghost use Rattle.reader.specs.Answers.{forget, gaveByte};
 ghost use Rattle.reader.specs.Section.{kindsOf};
 ghost use Rattle.tree.specs.Decode.{textsOf};
 
@@ -28,8 +30,8 @@ pub fn read_operand(s: &[u8], kinds: &[u8], at: usize) -> Read
     ensures { λ r. ⌜ r ≡ forget (operand (textsOf (now (s .entry))) (now (s .entry)) at) ⌝ }
 {
     let a = read_name(s, kinds, at);
-    let Read::At(k) = a else {
-        return a;
+    let ReadText::At(_, k) = a else {
+        return a.into_read();
     };
     let b = read_optional_u64(s, k);
     let Read::At(l) = b else {
@@ -39,7 +41,7 @@ pub fn read_operand(s: &[u8], kinds: &[u8], at: usize) -> Read
     let Read::At(m) = c else {
         return c;
     };
-    read_span(s, m)
+    read_span(s, m).into_read()
 }
 
 pub fn read_optional_operand(s: &[u8], kinds: &[u8], at: usize) -> Read
@@ -47,17 +49,18 @@ pub fn read_optional_operand(s: &[u8], kinds: &[u8], at: usize) -> Read
     ensures { λ r. ⌜ r ≡ forget (option (operand (textsOf (now (s .entry)))) (now (s .entry)) at) ⌝ }
 {
     let a = read_case(s, at, FLAGS);
-    let Read::At(k) = a else {
-        return a;
+    let ReadByte::At(b, k) = a else {
+        return a.into_read();
     };
-    if s[at] == 0 {
+    if b == 0 {
         return Read::At(k);
     }
     read_operand(s, kinds, k)
 }
 
-pub fn read_type(s: &[u8], at: usize) -> Read
-    ensures { λ r. ⌜ r ≡ forget (classicalType (now (s .entry)) at) ⌝ }
+// The case byte of a type.
+pub fn read_type(s: &[u8], at: usize) -> ReadByte
+    ensures { λ r. ⌜ r ≡ gaveByte (caseByte 5 (now (s .entry)) at) ⌝ }
 {
     read_case(s, at, TYPES)
 }
@@ -66,13 +69,13 @@ pub fn read_optional_qualifier(s: &[u8], at: usize) -> Read
     ensures { λ r. ⌜ r ≡ forget (option qualifier (now (s .entry)) at) ⌝ }
 {
     let a = read_case(s, at, FLAGS);
-    let Read::At(k) = a else {
-        return a;
+    let ReadByte::At(b, k) = a else {
+        return a.into_read();
     };
-    if s[at] == 0 {
+    if b == 0 {
         return Read::At(k);
     }
-    read_case(s, k, QUALIFIERS)
+    read_case(s, k, QUALIFIERS).into_read()
 }
 
 // A modifier with an optional count, `ctrl` or `negctrl`, behind its case byte.
@@ -84,7 +87,7 @@ fn read_ctrl(s: &[u8], kinds: &[u8], at: usize) -> Read
     let Read::At(k) = a else {
         return a;
     };
-    read_span(s, k)
+    read_span(s, k).into_read()
 }
 
 fn read_pow(s: &[u8], kinds: &[u8], at: usize) -> Read
@@ -95,7 +98,7 @@ fn read_pow(s: &[u8], kinds: &[u8], at: usize) -> Read
     let Read::At(k) = a else {
         return a;
     };
-    read_span(s, k)
+    read_span(s, k).into_read()
 }
 
 pub fn read_modifier(s: &[u8], kinds: &[u8], at: usize) -> Read
@@ -103,13 +106,13 @@ pub fn read_modifier(s: &[u8], kinds: &[u8], at: usize) -> Read
     ensures { λ r. ⌜ r ≡ forget (modifier (textsOf (now (s .entry))) (now (s .entry)) at) ⌝ }
 {
     let a = read_case(s, at, MODIFIER_CASES);
-    let Read::At(k) = a else {
-        return a;
+    let ReadByte::At(b, k) = a else {
+        return a.into_read();
     };
-    match s[at] {
+    match b {
         0 => read_ctrl(s, kinds, k),
         1 => read_ctrl(s, kinds, k),
-        2 => read_span(s, k),
+        2 => read_span(s, k).into_read(),
         _ => read_pow(s, kinds, k),
     }
 }
@@ -135,10 +138,10 @@ fn read_param(s: &[u8], kinds: &[u8], at: usize) -> Read
     ensures { λ r. ⌜ r ≡ forget (param (textsOf (now (s .entry))) (now (s .entry)) at) ⌝ }
 {
     let a = read_type(s, at);
-    let Read::At(k) = a else {
-        return a;
+    let ReadByte::At(_, k) = a else {
+        return a.into_read();
     };
-    read_name(s, kinds, k)
+    read_name(s, kinds, k).into_read()
 }
 
 // Names behind their count; so the other Vecs.
@@ -147,15 +150,15 @@ pub fn read_names(s: &[u8], kinds: &[u8], at: usize) -> Read
     ensures { λ r. ⌜ r ≡ forget (vec (name (textsOf (now (s .entry)))) (now (s .entry)) at) ⌝ }
 {
     let a = read_count(s, at);
-    let Read::At(first) = a else {
-        return a;
+    let ReadByte::At(n, first) = a else {
+        return a.into_read();
     };
     let mut k = first;
-    let mut i = s[at];
+    let mut i = n;
     while 0 < i {
         let b = read_name(s, kinds, k);
-        let Read::At(next) = b else {
-            return b;
+        let ReadText::At(_, next) = b else {
+            return b.into_read();
         };
         k = next;
         i -= 1;
@@ -168,11 +171,11 @@ pub fn read_params(s: &[u8], kinds: &[u8], at: usize) -> Read
     ensures { λ r. ⌜ r ≡ forget (vec (param (textsOf (now (s .entry)))) (now (s .entry)) at) ⌝ }
 {
     let a = read_count(s, at);
-    let Read::At(first) = a else {
-        return a;
+    let ReadByte::At(n, first) = a else {
+        return a.into_read();
     };
     let mut k = first;
-    let mut i = s[at];
+    let mut i = n;
     while 0 < i {
         let b = read_param(s, kinds, k);
         let Read::At(next) = b else {
@@ -189,11 +192,11 @@ pub fn read_modifiers(s: &[u8], kinds: &[u8], at: usize) -> Read
     ensures { λ r. ⌜ r ≡ forget (vec (modifier (textsOf (now (s .entry)))) (now (s .entry)) at) ⌝ }
 {
     let a = read_count(s, at);
-    let Read::At(first) = a else {
-        return a;
+    let ReadByte::At(n, first) = a else {
+        return a.into_read();
     };
     let mut k = first;
-    let mut i = s[at];
+    let mut i = n;
     while 0 < i {
         let b = read_modifier(s, kinds, k);
         let Read::At(next) = b else {
@@ -210,11 +213,11 @@ pub fn read_operands(s: &[u8], kinds: &[u8], at: usize) -> Read
     ensures { λ r. ⌜ r ≡ forget (vec (operand (textsOf (now (s .entry)))) (now (s .entry)) at) ⌝ }
 {
     let a = read_count(s, at);
-    let Read::At(first) = a else {
-        return a;
+    let ReadByte::At(n, first) = a else {
+        return a.into_read();
     };
     let mut k = first;
-    let mut i = s[at];
+    let mut i = n;
     while 0 < i {
         let b = read_operand(s, kinds, k);
         let Read::At(next) = b else {

@@ -1,5 +1,7 @@
 // Statements without a body. A case's function is given the place of the case byte and starts behind it.
-use crate::Read;
+use crate::answers::Read;
+use crate::answers::ReadByte;
+use crate::answers::ReadText;
 use crate::exprs::read_held;
 use crate::exprs::read_held_args;
 use crate::exprs::read_optional_held;
@@ -31,10 +33,10 @@ pub fn read_include(s: &[u8], kinds: &[u8], at: usize) -> Read
     ensures { λ r. ⌜ r ≡ forget (include (textsOf (now (s .entry))) at (now (s .entry)) (at + 1)) ⌝ }
 {
     let a = read_path(s, kinds, at + 1);
-    let Read::At(k) = a else {
-        return a;
+    let ReadText::At(_, k) = a else {
+        return a.into_read();
     };
-    read_span(s, k)
+    read_span(s, k).into_read()
 }
 
 pub fn read_qubit_decl(s: &[u8], kinds: &[u8], at: usize) -> Read
@@ -43,14 +45,14 @@ pub fn read_qubit_decl(s: &[u8], kinds: &[u8], at: usize) -> Read
     ensures { λ r. ⌜ r ≡ forget (qubitDecl (textsOf (now (s .entry))) at (now (s .entry)) (at + 1)) ⌝ }
 {
     let a = read_name(s, kinds, at + 1);
-    let Read::At(k) = a else {
-        return a;
+    let ReadText::At(_, k) = a else {
+        return a.into_read();
     };
     let b = read_optional_u64(s, k);
     let Read::At(l) = b else {
         return b;
     };
-    read_span(s, l)
+    read_span(s, l).into_read()
 }
 
 pub fn read_bit_decl(s: &[u8], kinds: &[u8], at: usize) -> Read
@@ -59,14 +61,14 @@ pub fn read_bit_decl(s: &[u8], kinds: &[u8], at: usize) -> Read
     ensures { λ r. ⌜ r ≡ forget (bitDecl (textsOf (now (s .entry))) at (now (s .entry)) (at + 1)) ⌝ }
 {
     let a = read_name(s, kinds, at + 1);
-    let Read::At(k) = a else {
-        return a;
+    let ReadText::At(_, k) = a else {
+        return a.into_read();
     };
     let b = read_optional_u64(s, k);
     let Read::At(l) = b else {
         return b;
     };
-    read_span(s, l)
+    read_span(s, l).into_read()
 }
 
 pub fn read_classical_decl(s: &[u8], kinds: &[u8], at: usize) -> Read
@@ -79,18 +81,18 @@ pub fn read_classical_decl(s: &[u8], kinds: &[u8], at: usize) -> Read
         return a;
     };
     let b = read_type(s, k);
-    let Read::At(l) = b else {
-        return b;
+    let ReadByte::At(_, l) = b else {
+        return b.into_read();
     };
     let c = read_name(s, kinds, l);
-    let Read::At(m) = c else {
-        return c;
+    let ReadText::At(_, m) = c else {
+        return c.into_read();
     };
     let d = read_optional_held(s, kinds, m);
     let Read::At(n) = d else {
         return d;
     };
-    read_span(s, n)
+    read_span(s, n).into_read()
 }
 
 pub fn read_assignment(s: &[u8], kinds: &[u8], at: usize) -> Read
@@ -99,18 +101,18 @@ pub fn read_assignment(s: &[u8], kinds: &[u8], at: usize) -> Read
     ensures { λ r. ⌜ r ≡ forget (assignment (textsOf (now (s .entry))) at (now (s .entry)) (at + 1)) ⌝ }
 {
     let a = read_name(s, kinds, at + 1);
-    let Read::At(k) = a else {
-        return a;
+    let ReadText::At(_, k) = a else {
+        return a.into_read();
     };
     let b = read_case(s, k, ASSIGN_OPS);
-    let Read::At(l) = b else {
-        return b;
+    let ReadByte::At(_, l) = b else {
+        return b.into_read();
     };
     let c = read_held(s, kinds, l);
     let Read::At(m) = c else {
         return c;
     };
-    read_span(s, m)
+    read_span(s, m).into_read()
 }
 
 pub fn read_gate_call(s: &[u8], kinds: &[u8], at: usize) -> Read
@@ -119,8 +121,8 @@ pub fn read_gate_call(s: &[u8], kinds: &[u8], at: usize) -> Read
     ensures { λ r. ⌜ r ≡ forget (gateCall (textsOf (now (s .entry))) at (now (s .entry)) (at + 1)) ⌝ }
 {
     let a = read_name(s, kinds, at + 1);
-    let Read::At(k) = a else {
-        return a;
+    let ReadText::At(_, k) = a else {
+        return a.into_read();
     };
     let b = read_modifiers(s, kinds, k);
     let Read::At(l) = b else {
@@ -134,7 +136,7 @@ pub fn read_gate_call(s: &[u8], kinds: &[u8], at: usize) -> Read
     let Read::At(n) = d else {
         return d;
     };
-    read_span(s, n)
+    read_span(s, n).into_read()
 }
 
 pub fn read_function_def(s: &[u8], kinds: &[u8], at: usize) -> Read
@@ -143,22 +145,22 @@ pub fn read_function_def(s: &[u8], kinds: &[u8], at: usize) -> Read
     ensures { λ r. ⌜ r ≡ forget (functionDef (textsOf (now (s .entry))) at (now (s .entry)) (at + 1)) ⌝ }
 {
     let a = read_name(s, kinds, at + 1);
-    let Read::At(k) = a else {
-        return a;
+    let ReadText::At(_, k) = a else {
+        return a.into_read();
     };
     let b = read_params(s, kinds, k);
     let Read::At(l) = b else {
         return b;
     };
     let c = read_type(s, l);
-    let Read::At(m) = c else {
-        return c;
+    let ReadByte::At(_, m) = c else {
+        return c.into_read();
     };
     let d = read_held(s, kinds, m);
     let Read::At(n) = d else {
         return d;
     };
-    read_span(s, n)
+    read_span(s, n).into_read()
 }
 
 pub fn read_measure(s: &[u8], kinds: &[u8], at: usize) -> Read
@@ -174,7 +176,7 @@ pub fn read_measure(s: &[u8], kinds: &[u8], at: usize) -> Read
     let Read::At(l) = b else {
         return b;
     };
-    read_span(s, l)
+    read_span(s, l).into_read()
 }
 
 pub fn read_reset(s: &[u8], kinds: &[u8], at: usize) -> Read
@@ -186,7 +188,7 @@ pub fn read_reset(s: &[u8], kinds: &[u8], at: usize) -> Read
     let Read::At(k) = a else {
         return a;
     };
-    read_span(s, k)
+    read_span(s, k).into_read()
 }
 
 pub fn read_barrier(s: &[u8], kinds: &[u8], at: usize) -> Read
@@ -198,7 +200,7 @@ pub fn read_barrier(s: &[u8], kinds: &[u8], at: usize) -> Read
     let Read::At(k) = a else {
         return a;
     };
-    read_span(s, k)
+    read_span(s, k).into_read()
 }
 
 pub fn read_delay(s: &[u8], kinds: &[u8], at: usize) -> Read
@@ -214,5 +216,5 @@ pub fn read_delay(s: &[u8], kinds: &[u8], at: usize) -> Read
     let Read::At(l) = b else {
         return b;
     };
-    read_span(s, l)
+    read_span(s, l).into_read()
 }

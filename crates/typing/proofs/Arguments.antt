@@ -11,11 +11,11 @@ use lib.Dec.{eqb}
 use Rattle.span.specs.declared.Span.{Span}
 use Rattle.ast.specs.Tree.{Text, Expr, Exprs, noExpr, moreExpr}
 use Rattle.ast.specs.declared.ClassicalType.{ClassicalType}
-use Rattle.tree.specs.Ans.{Ans, ok, IsOk, nextOf, given}
-use Rattle.tree.specs.Read.{repeat, counted}
+use Rattle.tree.specs.Ans.{IsOk, nextOf, given}
+use Rattle.tree.specs.Read.{repeat}
 use Rattle.tree.specs.Exprs.{expr, exprs}
 use Rattle.sema.specs.Messages
-use Rattle.sema.specs.Messages.{Diagnostic, error, errorWithNote}
+use Rattle.sema.specs.Messages.{error, errorWithNote}
 use Rattle.sema.specs.Symbols.{Symbols, FunctionSig, Table}
 use Rattle.sema.specs.Operands.{unless}
 use Rattle.sema.specs.Exprs.{Typing, untyped, exprSpan, argumentSays, rest, count, checkExpr, checkAll, checkArguments}
@@ -27,13 +27,13 @@ use Rattle.context.specs.View.{numberAt, spanAt}
 use Rattle.accepted.specs.Cases.{blank}
 use Rattle.accepted.specs.Parts.{valueOr, value-is, given-ok}
 use Rattle.accepted.specs.Fields.{counted-is, counted-held, repeat-none}
-use Rattle.accepted.specs.Remains.{Remains, remains-start, remains-more, remains-end}
+use Rattle.accepted.specs.Remains.{Remains, remains-start, remains-more}
 use Rattle.accepted.specs.Exprs as of
 use Rattle.tables.specs.Tables.{paramsOf}
 use Rattle.promises.specs.Emitted.{Emitted, emitted-then, emitted-as}
 use Rattle.promises.specs.Typings.{TypingOf}
 use Rattle.typing.specs.declared.Callee.{Callee}
-use Rattle.typing.specs.Checks.{Found, calleeType, calleeSays, CalleeOf, argumentAt}
+use Rattle.typing.specs.Checks.{calleeType, calleeSays, CalleeOf, argumentAt}
 use Rattle.typing.proofs.Exprs.{typing-is, found-of}
 use Rattle.typing.proofs.Spans.{span-here}
 use Rattle.typing.proofs.Owes.{Owes, owes-start, owes-as, owes-more, owes-end}
@@ -67,15 +67,15 @@ module _ (ss : Symbols) (fs : Table FunctionSig) where
   call-by x args sp = go (fs x)
     where
       go : (f : Option FunctionSig) → elim f [
-          | none ↦ untyped (error (Messages.functionNotDefined x) sp ∷ checkAll ss fs args)
-          | some sig ↦ record {
-            type = some (sig .return-type);
-            says =
-                unless (eqb (count args) (length (sig .params)))
-                (errorWithNote (Messages.functionArguments x (length (sig .params)) (count args)) sp Messages.functionDefined (sig .decl-span))
-                ++ checkArguments ss fs args x 0 (sig .params);
-          }
-        ] ≡ said-of x args sp f
+        | none ↦ untyped (error (Messages.functionNotDefined x) sp ∷ checkAll ss fs args)
+        | some sig ↦ record {
+          type = some (sig .return-type);
+          says =
+              unless (eqb (count args) (length (sig .params)))
+              (errorWithNote (Messages.functionArguments x (length (sig .params)) (count args)) sp Messages.functionDefined (sig .decl-span))
+              ++ checkArguments ss fs args x 0 (sig .params);
+        }
+      ] ≡ said-of x args sp f
       go none = ap (λ ds. untyped (error (Messages.functionNotDefined x) sp ∷ ds)) (all-free args x 0)
       go (some sig) = refl
 

@@ -1,7 +1,7 @@
 pub mod Finds
 pub mod Names
 pub mod Operators
-pub mod Calls
+pub mod Callees
 pub mod Exprs
 pub mod Spans
 pub mod Owes

@@ -2,17 +2,16 @@
 use Prim.Native.Nat.{ℕ, zero, suc, _+_, _≤_, _<_}
 use mathlib.Core.Path.{_≡_, refl, sym, ap, _∙_}
 use mathlib.Core.Bool.{Bool, true, false}
-use mathlib.Core.List.{List, [], _∷_, _++_}
-use mathlib.Core.Option.{Option, none, some}
+use mathlib.Core.List.{List, []}
+use mathlib.Core.Option.{none}
 use mathlib.Core.Logic.{_⊎_, inl, inr, ⊎-elim}
 use native.Mathlib.Omega.{arith}
 use lib.ListN.{length, getD}
 use Rattle.span.specs.declared.Span.{Span}
-use Rattle.ast.specs.Tree.{Text, Expr, GateModifier}
+use Rattle.ast.specs.Tree.{Text}
 use Rattle.ast.specs.declared.ClassicalType.{ClassicalType}
 use Rattle.tree.specs.Ans.{IsOk, nextOf}
 use Rattle.tree.specs.Read.{option}
-use Rattle.tree.specs.Exprs.{expr}
 use Rattle.tree.specs.Stmts.{held, modifier}
 use Rattle.sema.specs.Messages
 use Rattle.sema.specs.Messages.{error}
@@ -27,7 +26,7 @@ use Rattle.lines.specs.declared.Message.{Message}
 use Rattle.lines.specs.declared.Diagnostic.{Diagnostic as DiagnosticValue}
 use Rattle.lines.specs.Values.{errorOf, Reported}
 use Rattle.accepted.specs.Cases.{blank}
-use Rattle.accepted.specs.Parts.{valueOr, next-is, given-is, given-ok}
+use Rattle.accepted.specs.Parts.{next-is, given-is, given-ok}
 use Rattle.accepted.specs.Fields.{option-none, option-held, option-some}
 use Rattle.accepted.specs.Operands as of
 use Rattle.constants.specs.declared.Evaluated.{Evaluated}

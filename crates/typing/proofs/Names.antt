@@ -1,7 +1,7 @@
 -- Names and names with an index, for each way out of the code. Assumes nothing.
 use Prim.Native.Nat.{ℕ, _<_, _≤_}
 use mathlib.Core.Path.{_≡_, refl, sym, ap, _∙_}
-use mathlib.Core.Bool.{Bool, true, false, not}
+use mathlib.Core.Bool.{Bool, true, false}
 use mathlib.Core.List.{List}
 use mathlib.Core.Option.{Option, none, some}
 use native.Mathlib.Omega.{arith}
@@ -54,20 +54,12 @@ module _ {t : List Text} (x : ℕ) (sp : Span) {end : ℕ} {s : Sink} {o : List 
     unfolding identType
     ident-gate-qubit e = rw e p
 
-pub not-bit : (k : SymbolKind) → (k ≡ SymbolKind.Bit → ⊥) → false ≡ isBit (kindOf k)
-not-bit SymbolKind.Qubit n = refl
-not-bit SymbolKind.Bit n = absurd (n refl)
-not-bit (SymbolKind.Classical ty) n = refl
-not-bit (SymbolKind.Const ty) n = refl
-not-bit SymbolKind.GateParam n = refl
-not-bit SymbolKind.GateQubit n = refl
-
 -- a name with an index by its symbol
 module _ (x i : ℕ) (sp : Span) (v : Symbol) where
   index-not : (k : SymbolKind) → isBit (kindOf k) ≡ false → indexType x i sp (symbolOf v) (kindOf k) ≡ refused (Message.NotIndexable x) sp
   unfolding indexType
   index-not SymbolKind.Qubit e = refl
-  index-not SymbolKind.Bit e = let z : _≡_ {A = Bool} true false = e in absurd (let y : _≡_ {A = ℕ} 0 1 = cc in omega arith)
+  index-not SymbolKind.Bit e = let y : _≡_ {A = ℕ} 0 1 = cc in absurd (omega arith)
   index-not (SymbolKind.Classical ty) e = refl
   index-not (SymbolKind.Const ty) e = refl
   index-not SymbolKind.GateParam e = refl

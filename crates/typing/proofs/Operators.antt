@@ -1,9 +1,8 @@
 -- A minus, arithmetic and comparison, for each way out of the code. Assumes nothing.
 use Prim.Native.Nat.{ℕ}
-use mathlib.Core.Path.{_≡_, refl, sym, ap, _∙_}
-use mathlib.Core.Bool.{Bool, true, false, cond, _&&_, _||_}
-use mathlib.Core.List.{List, [], _∷_}
-use mathlib.Core.Option.{Option, none, some}
+use mathlib.Core.Path.{_≡_, sym, _∙_}
+use mathlib.Core.Bool.{Bool, true, false, cond, _&&_}
+use mathlib.Core.List.{List}
 use native.Mathlib.Omega.{arith}
 use lib.Dec.{eqb}
 use borrow.Author.Tests.{eq-eqb, ne-eqb}
@@ -13,7 +12,7 @@ use Rattle.ast.specs.declared.ClassicalType.{ClassicalType}
 use Rattle.types.specs.declared.Typed.{Typed}
 use Rattle.types.specs.declared.Typed.the-variants.{«Type», None}
 use Rattle.types.specs.Types.{numberOf, numeric, larger, arithmeticOf}
-use Rattle.sema.specs.Exprs.{Typing, typed, untyped, negType, arithmeticType, compareType}
+use Rattle.sema.specs.Exprs.{typed, negType, arithmeticType, compareType}
 use Rattle.context.specs.declared.Sink.{Sink}
 use Rattle.context.specs.declared.Typing.{Typing as TypingValue}
 use Rattle.context.specs.Sink.{SinkFits}

@@ -1,23 +1,21 @@
 -- A type that is required of an expression, for each way out of the code. Assumes nothing.
 use Prim.Native.Nat.{ℕ, _-_}
-use mathlib.Core.Path.{_≡_, refl, sym, ap, ap₂, _∙_}
+use mathlib.Core.Path.{_≡_, sym, ap₂}
 use mathlib.Core.Bool.{Bool, true, false}
-use mathlib.Core.List.{List, [], _∷_, _++_}
-use mathlib.Core.Option.{Option, none, some}
+use mathlib.Core.List.{List, [], _++_}
+use mathlib.Core.Option.{Option}
 use Rattle.span.specs.declared.Span.{Span}
-use Rattle.ast.specs.Tree.{Text, Expr}
+use Rattle.ast.specs.Tree.{Text}
 use Rattle.ast.specs.declared.ClassicalType.{ClassicalType}
-use Rattle.types.specs.declared.Typed.{Typed}
 use Rattle.types.specs.declared.Typed.the-variants.{«Type», None}
 use Rattle.types.specs.Types.{assignableTo, numeric}
-use Rattle.tree.specs.Ans.{Ans, IsOk, nextOf}
+use Rattle.tree.specs.Ans.{IsOk}
 use Rattle.tree.specs.Stmts.{held}
 use Rattle.sema.specs.Messages
 use Rattle.sema.specs.Messages.{Diagnostic, error}
 use Rattle.sema.specs.Symbols.{Symbols, FunctionSig, Table}
 use Rattle.sema.specs.Exprs.{exprSpan, mismatch, notNumeric, checkExpr, requireType, requireNumeric}
 use Rattle.context.specs.declared.Sink.{Sink}
-use Rattle.context.specs.declared.After.{After}
 use Rattle.context.specs.declared.Typing.{Typing as TypingValue}
 use Rattle.context.specs.Sink.{SinkFits}
 use Rattle.context.specs.Values.{typedOf}
@@ -25,9 +23,9 @@ use Rattle.context.specs.View.{spanAt}
 use Rattle.lines.specs.declared.Message.{Message}
 use Rattle.lines.specs.declared.Place.{Place}
 use Rattle.lines.specs.declared.Diagnostic.{Diagnostic as DiagnosticValue}
-use Rattle.lines.specs.Values.{diagnosticOf, errorOf, messageOf, placeOf, Reported}
+use Rattle.lines.specs.Values.{errorOf, messageOf, placeOf, Reported}
 use Rattle.accepted.specs.Cases.{blank}
-use Rattle.accepted.specs.Parts.{valueOr, given-ok}
+use Rattle.accepted.specs.Parts.{given-ok}
 use Rattle.promises.specs.Emitted.{Emitted, emitted-none, emitted-then, emitted-as, unless-holds, unless-fails}
 use Rattle.promises.specs.Typings.{TypingOf, SaidOf}
 use Rattle.typing.proofs.Exprs.{found-of}

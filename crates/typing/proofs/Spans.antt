@@ -4,7 +4,6 @@ use mathlib.Core.Path.{_≡_, refl, sym, ap, _∙_}
 use mathlib.Core.List.{List}
 use native.Mathlib.Omega.{arith}
 use lib.ListN.{getD, length}
-use Rattle.span.specs.declared.Span.{Span}
 use Rattle.ast.specs.Tree.{Text, Expr}
 use Rattle.tree.specs.Ans.{Ans, ok, IsOk, nextOf}
 use Rattle.tree.specs.Exprs.{expr}

@@ -1,9 +1,9 @@
 -- A Vec checked value by value. Assumes nothing.
 use Prim.Native.Nat.{ℕ, _+_, _-_, _≤_, _<_}
-use mathlib.Core.Path.{_≡_, refl, sym, ap, _∙_}
+use mathlib.Core.Path.{_≡_, refl, ap, _∙_}
 use mathlib.Core.List.{List, [], _∷_, _++_}
 use lib.ListN.{getD}
-use Rattle.ast.specs.Tree.{Text, Expr, Exprs, noExpr, moreExpr, GateModifier}
+use Rattle.ast.specs.Tree.{Text, noExpr, moreExpr}
 use Rattle.tree.specs.Ans.{Reader, IsOk, nextOf, given}
 use Rattle.tree.specs.Read.{repeat, counted, vec}
 use Rattle.tree.specs.Exprs.{exprs}

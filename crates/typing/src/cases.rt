@@ -3,39 +3,29 @@ use accepted::numbers::span_at;
 use accepted::numbers::u16_at;
 use accepted::numbers::u64_at;
 use ast::ClassicalType;
-use context::FoundFunction;
 use context::FoundSymbol;
-use context::FunctionSig;
 use context::Number;
 use context::Sink;
 use context::Symbol;
 use context::SymbolKind;
 use context::Typing;
-use crate::Callee;
 use lines::Message;
-use lines::Note;
 use lines::error;
-use lines::error_with_note;
 use span::Span;
 use types::Typed;
 ghost use mathlib.Core.Path.{_≡_};
 ghost use mathlib.Core.List.{[], _∷_};
-ghost use Prim.Native.Nat.{_+_, _-_, _≤_, _<_};
-ghost use lib.ListN.{length, drop};
-ghost use lib.Dec.{eqb};
+ghost use Prim.Native.Nat.{_+_, _≤_, _<_};
+ghost use lib.ListN.{length};
 ghost use Rattle.ast.specs.Tree.{Expr};
 ghost use Rattle.tree.specs.Decode.{textsOf};
 ghost use Rattle.types.specs.Types.{numberOf};
-ghost use Rattle.sema.specs.Messages.{errorWithNote, functionArguments, functionDefined};
-ghost use Rattle.sema.specs.Operands.{unless};
 ghost use Rattle.sema.specs.Exprs.{untyped, identType, indexType, negType, arithmeticType, compareType, checkExpr};
 ghost use Rattle.context.specs.Sink.{SinkFits};
 ghost use Rattle.context.specs.Values.{kindOf, symbolOf, typedOf};
 ghost use Rattle.context.specs.View.{TextsAt, numberAt, spanAt, scopesOf, functionsOf};
 ghost use Rattle.lines.specs.Values.{Below, nameIn, diagnosticOf, errorOf};
-ghost use Rattle.tables.specs.Tables.{briefOf, paramsOf};
-ghost use Rattle.promises.specs.Emitted.{Emitted};
-ghost use Rattle.typing.specs.Checks.{Checkable, Found, hasType, isBit, comparable, CalleeOf, argumentAt};
+ghost use Rattle.typing.specs.Checks.{Checkable, Found, hasType, isBit, comparable};
 
 pub fn has_type(ty: ClassicalType, next: usize, sink: Sink) -> Typing
     ensures { λ r. ⌜ r ≡ hasType ty next sink ⌝ }
@@ -48,7 +38,15 @@ pub fn has_type(ty: ClassicalType, next: usize, sink: Sink) -> Typing
 }
 
 // No type, and an error said.
-fn refuse(tree: &[u8], index: &[u64], out: &mut [u8], sink: Sink, message: Message, span: Span, next: usize) -> Typing
+fn refuse(
+    tree: &[u8],
+    index: &[u64],
+    out: &mut [u8],
+    sink: Sink,
+    message: Message,
+    span: Span,
+    next: usize,
+) -> Typing
     requires { ⌜ TextsAt (now tree) (now index) × SinkFits sink × Below (length (textsOf (now tree))) (nameIn message) ⌝ }
     ensures { λ r. ⌜ Found (textsOf (now (tree .entry))) (untyped (diagnosticOf (errorOf message span) ∷ [])) next sink (now (out .entry)) r (now (out .exit)) ⌝ }
 {
@@ -61,7 +59,16 @@ fn refuse(tree: &[u8], index: &[u64], out: &mut [u8], sink: Sink, message: Messa
 }
 
 // A name, by its symbol's kind.
-fn ident_type(tree: &[u8], index: &[u64], out: &mut [u8], x: usize, span: Span, kind: SymbolKind, next: usize, sink: Sink) -> Typing
+fn ident_type(
+    tree: &[u8],
+    index: &[u64],
+    out: &mut [u8],
+    x: usize,
+    span: Span,
+    kind: SymbolKind,
+    next: usize,
+    sink: Sink,
+) -> Typing
     requires { ⌜ TextsAt (now tree) (now index) × SinkFits sink × (x < length (textsOf (now tree))) ⌝ }
     ensures { λ r. ⌜ Found (textsOf (now (tree .entry))) (identType x span (kindOf kind)) next sink (now (out .entry)) r (now (out .exit)) ⌝ }
 {
@@ -71,11 +78,27 @@ fn ident_type(tree: &[u8], index: &[u64], out: &mut [u8], x: usize, span: Span, 
         SymbolKind::Bit => has_type(ClassicalType::Int, next, sink),
         SymbolKind::GateParam => has_type(ClassicalType::Float, next, sink),
         SymbolKind::Qubit => refuse(tree, index, out, sink, Message::NotClassical(x), span, next),
-        SymbolKind::GateQubit => refuse(tree, index, out, sink, Message::NotClassical(x), span, next),
+        SymbolKind::GateQubit => refuse(
+            tree,
+            index,
+            out,
+            sink,
+            Message::NotClassical(x),
+            span,
+            next,
+        ),
     }
 }
 
-pub fn check_ident(tree: &[u8], index: &[u64], scratch: &[u8], out: &mut [u8], depth: usize, at: usize, sink: Sink) -> Typing
+pub fn check_ident(
+    tree: &[u8],
+    index: &[u64],
+    scratch: &[u8],
+    out: &mut [u8],
+    depth: usize,
+    at: usize,
+    sink: Sink,
+) -> Typing
     requires { ⌜ Checkable (now tree) (now index) (now scratch) depth × SinkFits sink × (at + 11 ≤ length (now tree)) × (numberAt 2 (now tree) (at + 1) < length (textsOf (now tree))) ⌝ }
     ensures { λ r. ⌜ Found (textsOf (now (tree .entry))) (checkExpr (scopesOf (now (scratch .entry)) depth) (functionsOf (now (scratch .entry))) (Expr.Ident (numberAt 2 (now (tree .entry)) (at + 1)) (spanAt (now (tree .entry)) (at + 3)))) (at + 11) sink (now (out .entry)) r (now (out .exit)) ⌝ }
 {
@@ -103,7 +126,17 @@ fn is_bit(kind: SymbolKind) -> bool
 }
 
 // A name with an index, by its symbol.
-fn index_type(tree: &[u8], index: &[u64], out: &mut [u8], x: usize, i: u64, span: Span, symbol: Symbol, next: usize, sink: Sink) -> Typing
+fn index_type(
+    tree: &[u8],
+    index: &[u64],
+    out: &mut [u8],
+    x: usize,
+    i: u64,
+    span: Span,
+    symbol: Symbol,
+    next: usize,
+    sink: Sink,
+) -> Typing
     requires { ⌜ TextsAt (now tree) (now index) × SinkFits sink × (x < length (textsOf (now tree))) ⌝ }
     ensures { λ r. ⌜ Found (textsOf (now (tree .entry))) (indexType x i span (symbolOf symbol) (kindOf (symbol .kind))) next sink (now (out .entry)) r (now (out .exit)) ⌝ }
 {
@@ -113,15 +146,39 @@ fn index_type(tree: &[u8], index: &[u64], out: &mut [u8], x: usize, i: u64, span
     }
     let size = symbol.size;
     let Number::Some(n) = size else {
-        return refuse(tree, index, out, sink, Message::CannotIndexBit(x), span, next);
+        return refuse(
+            tree,
+            index,
+            out,
+            sink,
+            Message::CannotIndexBit(x),
+            span,
+            next,
+        );
     };
     if i < n {
         return has_type(ClassicalType::Int, next, sink);
     }
-    refuse(tree, index, out, sink, Message::IndexOutOfBounds(i, x, n), span, next)
+    refuse(
+        tree,
+        index,
+        out,
+        sink,
+        Message::IndexOutOfBounds(i, x, n),
+        span,
+        next,
+    )
 }
 
-pub fn check_index(tree: &[u8], index: &[u64], scratch: &[u8], out: &mut [u8], depth: usize, at: usize, sink: Sink) -> Typing
+pub fn check_index(
+    tree: &[u8],
+    index: &[u64],
+    scratch: &[u8],
+    out: &mut [u8],
+    depth: usize,
+    at: usize,
+    sink: Sink,
+) -> Typing
     requires { ⌜ Checkable (now tree) (now index) (now scratch) depth × SinkFits sink × (at + 19 ≤ length (now tree)) × (numberAt 2 (now tree) (at + 1) < length (textsOf (now tree))) ⌝ }
     ensures { λ r. ⌜ Found (textsOf (now (tree .entry))) (checkExpr (scopesOf (now (scratch .entry)) depth) (functionsOf (now (scratch .entry))) (Expr.Index (numberAt 2 (now (tree .entry)) (at + 1)) (numberAt 8 (now (tree .entry)) (at + 3)) (spanAt (now (tree .entry)) (at + 11)))) (at + 19) sink (now (out .entry)) r (now (out .exit)) ⌝ }
 {
@@ -133,79 +190,6 @@ pub fn check_index(tree: &[u8], index: &[u64], scratch: &[u8], out: &mut [u8], d
         return refuse(tree, index, out, sink, Message::NotDeclared(x), span, next);
     };
     index_type(tree, index, out, x, i, span, symbol, next, sink)
-}
-
-// So many arguments against the parameters of a function that is defined.
-fn count_arguments(tree: &[u8], index: &[u64], out: &mut [u8], x: usize, n: usize, sig: FunctionSig, span: Span, sink: Sink) -> Sink
-    requires { ⌜ TextsAt (now tree) (now index) × SinkFits sink × (x < length (textsOf (now tree))) ⌝ }
-    ensures { λ r. ⌜ Emitted (textsOf (now (tree .entry))) (unless (eqb n (sig .«param_count»)) (errorWithNote (functionArguments x (sig .«param_count») n) span functionDefined (sig .«decl_span»))) sink (now (out .entry)) r (now (out .exit)) ⌝ }
-{
-    let params = sig.param_count;
-    if n == params {
-        return sink;
-    }
-    let decl_span = sig.decl_span;
-    lines::report(
-        out,
-        sink,
-        tree,
-        index,
-        error_with_note(
-            Message::FunctionArguments(x, params as u64, n as u64),
-            span,
-            Note::FunctionDefined,
-            decl_span,
-        ),
-    )
-}
-
-// The function that is called with so many arguments.
-pub fn check_callee(tree: &[u8], index: &[u64], scratch: &[u8], out: &mut [u8], x: usize, n: usize, span: Span, sink: Sink) -> Callee
-    requires { ⌜ TextsAt (now tree) (now index) × (65536 ≤ length (now scratch)) × SinkFits sink × (x < length (textsOf (now tree))) ⌝ }
-    ensures { λ r. ⌜ CalleeOf (textsOf (now (tree .entry))) (functionsOf (now (scratch .entry)) x) x n span sink (now (out .entry)) r (now (out .exit)) ⌝ }
-{
-    let FoundFunction::Some(sig) = tables::function(scratch, x) else {
-        let said = lines::report(out, sink, tree, index, error(Message::FunctionNotDefined(x), span));
-        return Callee {
-            typed: Typed::None,
-            params: 0,
-            sink: said,
-        };
-    };
-    let said = count_arguments(tree, index, out, x, n, sig, span, sink);
-    let ty = sig.return_type;
-    Callee {
-        typed: Typed::Type(ty),
-        params: sig.param_count,
-        sink: said,
-    }
-}
-
-// An argument against the parameter of its place, where the function has one.
-pub fn check_argument(tree: &[u8], index: &[u64], scratch: &[u8], out: &mut [u8], x: usize, params: usize, i: usize, t: Typing) -> Sink
-    requires { ⌜ TextsAt (now tree) (now index) × (65536 ≤ length (now scratch)) × SinkFits (t .sink) × (x < length (textsOf (now tree))) × (params ≡ length (paramsOf (functionsOf (now scratch) x))) × (8 ≤ t .next) × (t .next ≤ length (now tree)) ⌝ }
-    ensures { λ r. ⌜ Emitted (textsOf (now (tree .entry))) (argumentAt x i (spanAt (now (tree .entry)) (t .next - 8)) (drop i (paramsOf (functionsOf (now (scratch .entry)) x))) (typedOf (t .typed))) (t .sink) (now (out .entry)) r (now (out .exit)) ⌝ }
-{
-    let sink = t.sink;
-    if params <= i {
-        return sink;
-    }
-    let found = t.typed;
-    let Typed::Type(actual) = found else {
-        return sink;
-    };
-    let expected = tables::param_type(scratch, x, i);
-    if types::assignable(expected, actual) {
-        return sink;
-    }
-    let span = span_at(tree, t.next - 8);
-    lines::report(
-        out,
-        sink,
-        tree,
-        index,
-        error(Message::ArgumentType((i + 1) as u64, x, expected, actual), span),
-    )
 }
 
 // The type of an operand with a minus before it; the span stands behind the operand.
@@ -255,7 +239,15 @@ pub fn arithmetic(tree: &[u8], index: &[u64], out: &mut [u8], l: Typed, t: Typin
     let result = types::arithmetic_type(a, b);
     let Typed::Type(ty) = result else {
         let span = span_at(tree, t.next);
-        return refuse(tree, index, out, sink, Message::ArithmeticNumeric, span, next);
+        return refuse(
+            tree,
+            index,
+            out,
+            sink,
+            Message::ArithmeticNumeric,
+            span,
+            next,
+        );
     };
     has_type(ty, next, sink)
 }

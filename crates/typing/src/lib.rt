@@ -1,4 +1,5 @@
 // Types of expressions over accepted bytes: check_expr, require_type, check_modifiers.
+mod calls;
 mod cases;
 
 use accepted::exprs::skip_exprs;
@@ -40,7 +41,18 @@ struct Callee {
 }
 
 // The arguments of a call against the parameters of the function x.
-fn check_arguments(tree: &[u8], index: &[u64], scratch: &[u8], out: &mut [u8], depth: usize, at: usize, left: usize, x: usize, params: usize, sink: Sink) -> Sink
+fn check_arguments(
+    tree: &[u8],
+    index: &[u64],
+    scratch: &[u8],
+    out: &mut [u8],
+    depth: usize,
+    at: usize,
+    left: usize,
+    x: usize,
+    params: usize,
+    sink: Sink,
+) -> Sink
     requires { ⌜ Checkable (now tree) (now index) (now scratch) depth × SinkFits sink × (x < length (textsOf (now tree))) × (params ≡ length (paramsOf (functionsOf (now scratch) x))) × IsOk (exprs (expr (textsOf (now tree)) left) (now tree) at) ⌝ }
     ensures { λ r. ⌜ Emitted (textsOf (now (tree .entry))) (given [] (λ es. checkArguments (scopesOf (now (scratch .entry)) depth) (functionsOf (now (scratch .entry))) es x 0 (paramsOf (functionsOf (now (scratch .entry)) x))) (exprs (expr (textsOf (now (tree .entry))) left) (now (tree .entry)) at)) sink (now (out .entry)) r (now (out .exit)) ⌝ }
 {
@@ -50,14 +62,23 @@ fn check_arguments(tree: &[u8], index: &[u64], scratch: &[u8], out: &mut [u8], d
     let mut s = sink;
     while i < n {
         let t = check_expr(tree, index, scratch, out, depth, k, left, s);
-        s = cases::check_argument(tree, index, scratch, out, x, params, i, t);
+        s = calls::check_argument(tree, index, scratch, out, x, params, i, t);
         k = t.next;
         i += 1;
     }
     s
 }
 
-fn check_call(tree: &[u8], index: &[u64], scratch: &[u8], out: &mut [u8], depth: usize, at: usize, left: usize, sink: Sink) -> Typing
+fn check_call(
+    tree: &[u8],
+    index: &[u64],
+    scratch: &[u8],
+    out: &mut [u8],
+    depth: usize,
+    at: usize,
+    left: usize,
+    sink: Sink,
+) -> Typing
     requires { ⌜ Checkable (now tree) (now index) (now scratch) depth × SinkFits sink × IsOk (expr (textsOf (now tree)) left (now tree) at) × (getD (now tree) at 0 ≡ 5) ⌝ }
     ensures { λ r. ⌜ TypingOf (textsOf (now (tree .entry))) (scopesOf (now (scratch .entry)) depth) (functionsOf (now (scratch .entry))) (expr (textsOf (now (tree .entry))) left (now (tree .entry)) at) sink (now (out .entry)) r (now (out .exit)) ⌝ }
 {
@@ -66,9 +87,20 @@ fn check_call(tree: &[u8], index: &[u64], scratch: &[u8], out: &mut [u8], depth:
     let span = span_at(tree, end);
     let next = end + 8;
     let n = wide(tree[at + 3]);
-    let f = cases::check_callee(tree, index, scratch, out, x, n, span, sink);
+    let f = calls::check_callee(tree, index, scratch, out, x, n, span, sink);
     let said = f.sink;
-    let after = check_arguments(tree, index, scratch, out, depth, at + 3, left - 1, x, f.params, said);
+    let after = check_arguments(
+        tree,
+        index,
+        scratch,
+        out,
+        depth,
+        at + 3,
+        left - 1,
+        x,
+        f.params,
+        said,
+    );
     let typed = f.typed;
     Typing {
         typed,
@@ -78,7 +110,16 @@ fn check_call(tree: &[u8], index: &[u64], scratch: &[u8], out: &mut [u8], depth:
 }
 
 // Validate an expression and return its inferred classical type.
-pub fn check_expr(tree: &[u8], index: &[u64], scratch: &[u8], out: &mut [u8], depth: usize, at: usize, left: usize, sink: Sink) -> Typing
+pub fn check_expr(
+    tree: &[u8],
+    index: &[u64],
+    scratch: &[u8],
+    out: &mut [u8],
+    depth: usize,
+    at: usize,
+    left: usize,
+    sink: Sink,
+) -> Typing
     requires { ⌜ Checkable (now tree) (now index) (now scratch) depth × SinkFits sink × IsOk (expr (textsOf (now tree)) left (now tree) at) ⌝ }
     ensures { λ r. ⌜ TypingOf (textsOf (now (tree .entry))) (scopesOf (now (scratch .entry)) depth) (functionsOf (now (scratch .entry))) (expr (textsOf (now (tree .entry))) left (now (tree .entry)) at) sink (now (out .entry)) r (now (out .exit)) ⌝ }
 {
@@ -112,7 +153,17 @@ pub fn check_expr(tree: &[u8], index: &[u64], scratch: &[u8], out: &mut [u8], de
 }
 
 // An expression that must have a type.
-pub fn require_type(tree: &[u8], index: &[u64], scratch: &[u8], out: &mut [u8], depth: usize, at: usize, expected: ClassicalType, place: Place, sink: Sink) -> After
+pub fn require_type(
+    tree: &[u8],
+    index: &[u64],
+    scratch: &[u8],
+    out: &mut [u8],
+    depth: usize,
+    at: usize,
+    expected: ClassicalType,
+    place: Place,
+    sink: Sink,
+) -> After
     requires { ⌜ Checkable (now tree) (now index) (now scratch) depth × SinkFits sink × IsOk (held (textsOf (now tree)) (now tree) at) ⌝ }
     ensures { λ r. ⌜ SaidOf (textsOf (now (tree .entry))) (λ e. requireType (scopesOf (now (scratch .entry)) depth) (functionsOf (now (scratch .entry))) e expected (placeOf place)) (held (textsOf (now (tree .entry))) (now (tree .entry)) at) sink (now (out .entry)) r (now (out .exit)) ⌝ }
 {
@@ -127,12 +178,27 @@ pub fn require_type(tree: &[u8], index: &[u64], scratch: &[u8], out: &mut [u8], 
         return After { next, sink: said };
     }
     let span = span_at(tree, next - 8);
-    let after = lines::report(out, said, tree, index, error(Message::MustHaveType(place, expected, actual), span));
+    let after = lines::report(
+        out,
+        said,
+        tree,
+        index,
+        error(Message::MustHaveType(place, expected, actual), span),
+    );
     After { next, sink: after }
 }
 
 // An expression that must be numeric; the message stands at its span.
-pub fn require_numeric(tree: &[u8], index: &[u64], scratch: &[u8], out: &mut [u8], depth: usize, at: usize, message: Message, sink: Sink) -> After
+pub fn require_numeric(
+    tree: &[u8],
+    index: &[u64],
+    scratch: &[u8],
+    out: &mut [u8],
+    depth: usize,
+    at: usize,
+    message: Message,
+    sink: Sink,
+) -> After
     requires { ⌜ Checkable (now tree) (now index) (now scratch) depth × SinkFits sink × IsOk (held (textsOf (now tree)) (now tree) at) × Below (length (textsOf (now tree))) (nameIn message) ⌝ }
     ensures { λ r. ⌜ SaidOf (textsOf (now (tree .entry))) (λ e. requireNumeric (scopesOf (now (scratch .entry)) depth) (functionsOf (now (scratch .entry))) e (messageOf message)) (held (textsOf (now (tree .entry))) (now (tree .entry)) at) sink (now (out .entry)) r (now (out .exit)) ⌝ }
 {
@@ -152,14 +218,32 @@ pub fn require_numeric(tree: &[u8], index: &[u64], scratch: &[u8], out: &mut [u8
 }
 
 // The Option of a count that a control holds; the control's span stands behind it.
-fn check_control(tree: &[u8], index: &[u64], scratch: &[u8], out: &mut [u8], depth: usize, at: usize, sink: Sink) -> After
+fn check_control(
+    tree: &[u8],
+    index: &[u64],
+    scratch: &[u8],
+    out: &mut [u8],
+    depth: usize,
+    at: usize,
+    sink: Sink,
+) -> After
     requires { ⌜ Checkable (now tree) (now index) (now scratch) depth × SinkFits sink × IsOk (option (held (textsOf (now tree))) (now tree) at) × (nextOf (option (held (textsOf (now tree))) (now tree) at) + 8 ≤ length (now tree)) ⌝ }
     ensures { λ r. ⌜ SaidOf (textsOf (now (tree .entry))) (λ arg. controlSays (scopesOf (now (scratch .entry)) depth) (functionsOf (now (scratch .entry))) arg (spanAt (now (tree .entry)) (nextOf (option (held (textsOf (now (tree .entry)))) (now (tree .entry)) at)))) (option (held (textsOf (now (tree .entry)))) (now (tree .entry)) at) sink (now (out .entry)) r (now (out .exit)) ⌝ }
 {
     if tree[at] == 0 {
         return After { next: at + 1, sink };
     }
-    let a = require_type(tree, index, scratch, out, depth, at + 1, ClassicalType::Int, Place::ControlArgument, sink);
+    let a = require_type(
+        tree,
+        index,
+        scratch,
+        out,
+        depth,
+        at + 1,
+        ClassicalType::Int,
+        Place::ControlArgument,
+        sink,
+    );
     let next = a.next;
     let said = a.sink;
     let e = constants::eval_const_int(tree, at + 1, 32);
@@ -172,14 +256,31 @@ fn check_control(tree: &[u8], index: &[u64], scratch: &[u8], out: &mut [u8], dep
     After { next, sink: after }
 }
 
-fn check_modifier(tree: &[u8], index: &[u64], scratch: &[u8], out: &mut [u8], depth: usize, at: usize, sink: Sink) -> After
+fn check_modifier(
+    tree: &[u8],
+    index: &[u64],
+    scratch: &[u8],
+    out: &mut [u8],
+    depth: usize,
+    at: usize,
+    sink: Sink,
+) -> After
     requires { ⌜ Checkable (now tree) (now index) (now scratch) depth × SinkFits sink × IsOk (modifier (textsOf (now tree)) (now tree) at) ⌝ }
     ensures { λ r. ⌜ SaidOf (textsOf (now (tree .entry))) (checkModifier (scopesOf (now (scratch .entry)) depth) (functionsOf (now (scratch .entry)))) (modifier (textsOf (now (tree .entry))) (now (tree .entry)) at) sink (now (out .entry)) r (now (out .exit)) ⌝ }
 {
     match tree[at] {
         2 => After { next: at + 9, sink },
         3 => {
-            let a = require_numeric(tree, index, scratch, out, depth, at + 1, Message::PowerNumeric, sink);
+            let a = require_numeric(
+                tree,
+                index,
+                scratch,
+                out,
+                depth,
+                at + 1,
+                Message::PowerNumeric,
+                sink,
+            );
             let said = a.sink;
             After {
                 next: a.next + 8,
@@ -198,7 +299,15 @@ fn check_modifier(tree: &[u8], index: &[u64], scratch: &[u8], out: &mut [u8], de
 }
 
 // A Vec of modifiers.
-pub fn check_modifiers(tree: &[u8], index: &[u64], scratch: &[u8], out: &mut [u8], depth: usize, at: usize, sink: Sink) -> After
+pub fn check_modifiers(
+    tree: &[u8],
+    index: &[u64],
+    scratch: &[u8],
+    out: &mut [u8],
+    depth: usize,
+    at: usize,
+    sink: Sink,
+) -> After
     requires { ⌜ Checkable (now tree) (now index) (now scratch) depth × SinkFits sink × IsOk (vec (modifier (textsOf (now tree))) (now tree) at) ⌝ }
     ensures { λ r. ⌜ SaidOf (textsOf (now (tree .entry))) (checkModifiers (scopesOf (now (scratch .entry)) depth) (functionsOf (now (scratch .entry)))) (vec (modifier (textsOf (now (tree .entry)))) (now (tree .entry)) at) sink (now (out .entry)) r (now (out .exit)) ⌝ }
 {
@@ -215,7 +324,15 @@ pub fn check_modifiers(tree: &[u8], index: &[u64], scratch: &[u8], out: &mut [u8
 }
 
 // A Vec of gate parameters.
-pub fn check_params(tree: &[u8], index: &[u64], scratch: &[u8], out: &mut [u8], depth: usize, at: usize, sink: Sink) -> After
+pub fn check_params(
+    tree: &[u8],
+    index: &[u64],
+    scratch: &[u8],
+    out: &mut [u8],
+    depth: usize,
+    at: usize,
+    sink: Sink,
+) -> After
     requires { ⌜ Checkable (now tree) (now index) (now scratch) depth × SinkFits sink × IsOk (exprs (held (textsOf (now tree))) (now tree) at) ⌝ }
     ensures { λ r. ⌜ SaidOf (textsOf (now (tree .entry))) (paramsSay (plainContext (scopesOf (now (scratch .entry)) depth) (functionsOf (now (scratch .entry))))) (exprs (held (textsOf (now (tree .entry)))) (now (tree .entry)) at) sink (now (out .entry)) r (now (out .exit)) ⌝ }
 {
@@ -223,7 +340,16 @@ pub fn check_params(tree: &[u8], index: &[u64], scratch: &[u8], out: &mut [u8], 
     let mut next = at + 1;
     let mut s = sink;
     while 0 < n {
-        let a = require_numeric(tree, index, scratch, out, depth, next, Message::ParamsNumeric, s);
+        let a = require_numeric(
+            tree,
+            index,
+            scratch,
+            out,
+            depth,
+            next,
+            Message::ParamsNumeric,
+            s,
+        );
         next = a.next;
         s = a.sink;
         n -= 1;

@@ -93,13 +93,15 @@ module _ (tree index : List ℕ) (keys left : ℕ) (st : State) (h : IsOk (stmt 
       (q : IsOk (body (stmt (textsOf tree) (left - 1)) tree place)) {w : State} {s″ o″ : List ℕ} (v : BodyWalked tree index keys (left - 1) i s′ o′ w s″ o″) where
     loop-walked : {S : Stmt} {end : ℕ} → stmt (textsOf tree) left tree (st .at) ≡ ok S end → (r : State)
         → analyzeStmt (textsOf tree) S (contextOf tree (keysIn index keys) s (9 - left) (st .marks))
-        ≡ (record {
-          symbols = scopesOf s (9 - left);
-          gates = analyzeStmts (textsOf tree) (valueOr noStmt (body (stmt (textsOf tree) (left - 1)) tree place)) (inner tree (keysIn index keys) p) .0 .gates;
-          functions = analyzeStmts (textsOf tree) (valueOr noStmt (body (stmt (textsOf tree) (left - 1)) tree place)) (inner tree (keysIn index keys) p) .0 .functions;
-          measured = afterLoop (marksOf tree (keysIn index keys) (st .marks)) (analyzeStmts (textsOf tree) (valueOr noStmt (body (stmt (textsOf tree) (left - 1)) tree place)) (inner tree (keysIn index keys) p) .0 .measured);
-        },
-        ds ++ analyzeStmts (textsOf tree) (valueOr noStmt (body (stmt (textsOf tree) (left - 1)) tree place)) (inner tree (keysIn index keys) p) .1)
+        ≡ (
+          record {
+            symbols = scopesOf s (9 - left);
+            gates = analyzeStmts (textsOf tree) (valueOr noStmt (body (stmt (textsOf tree) (left - 1)) tree place)) (inner tree (keysIn index keys) p) .0 .gates;
+            functions = analyzeStmts (textsOf tree) (valueOr noStmt (body (stmt (textsOf tree) (left - 1)) tree place)) (inner tree (keysIn index keys) p) .0 .functions;
+            measured = afterLoop (marksOf tree (keysIn index keys) (st .marks)) (analyzeStmts (textsOf tree) (valueOr noStmt (body (stmt (textsOf tree) (left - 1)) tree place)) (inner tree (keysIn index keys) p) .0 .measured);
+          },
+          ds ++ analyzeStmts (textsOf tree) (valueOr noStmt (body (stmt (textsOf tree) (left - 1)) tree place)) (inner tree (keysIn index keys) p) .1,
+        )
         → r .at ≡ end → r .sink ≡ w .sink → Placed tree (r .marks)
         → marksOf tree (keysIn index keys) (r .marks) ≡ unite (marksOf tree (keysIn index keys) (st .marks)) (marksOf tree (keysIn index keys) (w .marks))
         → StmtWalked tree index keys left st s o r s″ o″

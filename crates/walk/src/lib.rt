@@ -13,7 +13,15 @@ ghost use Rattle.context.specs.View.{Placed, keysIn, scopesOf, contextOf};
 ghost use Rattle.promises.specs.Walks.{Walkable, Ready, StmtKeyed, BodyKeyed, Walked, StmtWalked, BodyWalked};
 ghost use Rattle.walk.specs.Bodies.{ElseKeyed, walkElse};
 
-fn gate_def(tree: &[u8], index: &[u64], scratch: &mut [u8], out: &mut [u8], keys: usize, left: usize, st: State) -> State
+fn gate_def(
+    tree: &[u8],
+    index: &[u64],
+    scratch: &mut [u8],
+    out: &mut [u8],
+    keys: usize,
+    left: usize,
+    st: State,
+) -> State
     requires { ⌜ Walkable (now tree) (now index) keys × Ready (now tree) (now scratch) st × IsOk (stmt (textsOf (now tree)) left (now tree) (st .at)) × (left ≤ 8) × (getD (now tree) (st .at) 0 ≡ 6) ⌝ }
     requires { ⌜ StmtKeyed (keysIn (now index) keys) (scopesOf (now scratch) (9 - left)) (stmt (textsOf (now tree)) left (now tree) (st .at)) ⌝ }
     ensures { λ r. ⌜ StmtWalked (now (tree .entry)) (now (index .entry)) keys left st (now (scratch .entry)) (now (out .entry)) r (now (scratch .exit)) (now (out .exit)) ⌝ }
@@ -23,7 +31,15 @@ fn gate_def(tree: &[u8], index: &[u64], scratch: &mut [u8], out: &mut [u8], keys
     bodies::closed(r)
 }
 
-fn branch(tree: &[u8], index: &[u64], scratch: &mut [u8], out: &mut [u8], keys: usize, left: usize, st: State) -> State
+fn branch(
+    tree: &[u8],
+    index: &[u64],
+    scratch: &mut [u8],
+    out: &mut [u8],
+    keys: usize,
+    left: usize,
+    st: State,
+) -> State
     requires { ⌜ Walkable (now tree) (now index) keys × Ready (now tree) (now scratch) st × IsOk (stmt (textsOf (now tree)) left (now tree) (st .at)) × (left ≤ 8) × (getD (now tree) (st .at) 0 ≡ 12) ⌝ }
     requires { ⌜ StmtKeyed (keysIn (now index) keys) (scopesOf (now scratch) (9 - left)) (stmt (textsOf (now tree)) left (now tree) (st .at)) ⌝ }
     ensures { λ r. ⌜ StmtWalked (now (tree .entry)) (now (index .entry)) keys left st (now (scratch .entry)) (now (out .entry)) r (now (scratch .exit)) (now (out .exit)) ⌝ }
@@ -31,12 +47,30 @@ fn branch(tree: &[u8], index: &[u64], scratch: &mut [u8], out: &mut [u8], keys: 
     let inner = bodies::open_if(tree, index, scratch, out, left, st);
     let t = analyze_stmts(tree, index, scratch, out, keys, left - 1, inner);
     let marks = t.marks;
-    let e = branch_else(tree, index, scratch, out, keys, left, marks, bodies::back(t, st));
+    let e = branch_else(
+        tree,
+        index,
+        scratch,
+        out,
+        keys,
+        left,
+        marks,
+        bodies::back(t, st),
+    );
     bodies::closed(e)
 }
 
 // The `else` of an `if`, from the entry marks; `thens` are the marks after the `then` body. Both exits are united.
-fn branch_else(tree: &[u8], index: &[u64], scratch: &mut [u8], out: &mut [u8], keys: usize, left: usize, thens: [u16; 256], st: State) -> State
+fn branch_else(
+    tree: &[u8],
+    index: &[u64],
+    scratch: &mut [u8],
+    out: &mut [u8],
+    keys: usize,
+    left: usize,
+    thens: [u16; 256],
+    st: State,
+) -> State
     requires { ⌜ Walkable (now tree) (now index) keys × Ready (now tree) (now scratch) st × Placed (now tree) thens × IsOk (elseBody (stmt (textsOf (now tree)) (left - 1)) (now tree) (st .at)) × (0 < left) × (left ≤ 8) ⌝ }
     requires { ⌜ ElseKeyed (keysIn (now index) keys) (scopesOf (now scratch) (9 - left)) (elseBody (stmt (textsOf (now tree)) (left - 1)) (now tree) (st .at)) ⌝ }
     ensures { λ r. ⌜ Walked (now (tree .entry)) (textsOf (now (tree .entry))) (keysIn (now (index .entry)) keys) (9 - left) (walkElse (textsOf (now (tree .entry))) (contextOf (now (tree .entry)) (keysIn (now (index .entry)) keys) (now (scratch .entry)) (suc (9 - left)) thens) (elseBody (stmt (textsOf (now (tree .entry))) (left - 1)) (now (tree .entry)) (st .at))) (nextOf (elseBody (stmt (textsOf (now (tree .entry))) (left - 1)) (now (tree .entry)) (st .at))) st (now (scratch .entry)) (now (out .entry)) r (now (scratch .exit)) (now (out .exit)) ⌝ }
@@ -52,7 +86,15 @@ fn branch_else(tree: &[u8], index: &[u64], scratch: &mut [u8], out: &mut [u8], k
     bodies::united(e.at, e.sink, thens, marks)
 }
 
-fn for_loop(tree: &[u8], index: &[u64], scratch: &mut [u8], out: &mut [u8], keys: usize, left: usize, st: State) -> State
+fn for_loop(
+    tree: &[u8],
+    index: &[u64],
+    scratch: &mut [u8],
+    out: &mut [u8],
+    keys: usize,
+    left: usize,
+    st: State,
+) -> State
     requires { ⌜ Walkable (now tree) (now index) keys × Ready (now tree) (now scratch) st × IsOk (stmt (textsOf (now tree)) left (now tree) (st .at)) × (left ≤ 8) × (getD (now tree) (st .at) 0 ≡ 13) ⌝ }
     requires { ⌜ StmtKeyed (keysIn (now index) keys) (scopesOf (now scratch) (9 - left)) (stmt (textsOf (now tree)) left (now tree) (st .at)) ⌝ }
     ensures { λ r. ⌜ StmtWalked (now (tree .entry)) (now (index .entry)) keys left st (now (scratch .entry)) (now (out .entry)) r (now (scratch .exit)) (now (out .exit)) ⌝ }
@@ -62,7 +104,15 @@ fn for_loop(tree: &[u8], index: &[u64], scratch: &mut [u8], out: &mut [u8], keys
     bodies::closed_loop(st, r)
 }
 
-fn while_loop(tree: &[u8], index: &[u64], scratch: &mut [u8], out: &mut [u8], keys: usize, left: usize, st: State) -> State
+fn while_loop(
+    tree: &[u8],
+    index: &[u64],
+    scratch: &mut [u8],
+    out: &mut [u8],
+    keys: usize,
+    left: usize,
+    st: State,
+) -> State
     requires { ⌜ Walkable (now tree) (now index) keys × Ready (now tree) (now scratch) st × IsOk (stmt (textsOf (now tree)) left (now tree) (st .at)) × (left ≤ 8) × (getD (now tree) (st .at) 0 ≡ 14) ⌝ }
     requires { ⌜ StmtKeyed (keysIn (now index) keys) (scopesOf (now scratch) (9 - left)) (stmt (textsOf (now tree)) left (now tree) (st .at)) ⌝ }
     ensures { λ r. ⌜ StmtWalked (now (tree .entry)) (now (index .entry)) keys left st (now (scratch .entry)) (now (out .entry)) r (now (scratch .exit)) (now (out .exit)) ⌝ }
@@ -72,7 +122,15 @@ fn while_loop(tree: &[u8], index: &[u64], scratch: &mut [u8], out: &mut [u8], ke
     bodies::closed_loop(st, r)
 }
 
-fn analyze_stmt(tree: &[u8], index: &[u64], scratch: &mut [u8], out: &mut [u8], keys: usize, left: usize, st: State) -> State
+fn analyze_stmt(
+    tree: &[u8],
+    index: &[u64],
+    scratch: &mut [u8],
+    out: &mut [u8],
+    keys: usize,
+    left: usize,
+    st: State,
+) -> State
     requires { ⌜ Walkable (now tree) (now index) keys × Ready (now tree) (now scratch) st × IsOk (stmt (textsOf (now tree)) left (now tree) (st .at)) × (left ≤ 8) ⌝ }
     requires { ⌜ StmtKeyed (keysIn (now index) keys) (scopesOf (now scratch) (9 - left)) (stmt (textsOf (now tree)) left (now tree) (st .at)) ⌝ }
     ensures { λ r. ⌜ StmtWalked (now (tree .entry)) (now (index .entry)) keys left st (now (scratch .entry)) (now (out .entry)) r (now (scratch .exit)) (now (out .exit)) ⌝ }
@@ -98,7 +156,15 @@ fn analyze_stmt(tree: &[u8], index: &[u64], scratch: &mut [u8], out: &mut [u8], 
 }
 
 // A body: statements behind their two-byte count.
-pub fn analyze_stmts(tree: &[u8], index: &[u64], scratch: &mut [u8], out: &mut [u8], keys: usize, left: usize, st: State) -> State
+pub fn analyze_stmts(
+    tree: &[u8],
+    index: &[u64],
+    scratch: &mut [u8],
+    out: &mut [u8],
+    keys: usize,
+    left: usize,
+    st: State,
+) -> State
     requires { ⌜ Walkable (now tree) (now index) keys × Ready (now tree) (now scratch) st × IsOk (body (stmt (textsOf (now tree)) left) (now tree) (st .at)) × (left ≤ 8) ⌝ }
     requires { ⌜ BodyKeyed (keysIn (now index) keys) (scopesOf (now scratch) (9 - left)) (body (stmt (textsOf (now tree)) left) (now tree) (st .at)) ⌝ }
     ensures { λ r. ⌜ BodyWalked (now (tree .entry)) (now (index .entry)) keys left st (now (scratch .entry)) (now (out .entry)) r (now (scratch .exit)) (now (out .exit)) ⌝ }

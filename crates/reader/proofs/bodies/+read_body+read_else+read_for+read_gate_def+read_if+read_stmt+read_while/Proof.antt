@@ -6,8 +6,8 @@ use Rattle.tree.specs.Stmts.{stmt, body}
 use Rattle.reader.specs.Answers.{forget}
 use mathlib.Core.Path.{_≡_}
 use Rattle.reader.proofs.Cases.{statements, bodies, else-is}
-use Rattle.reader.proofs.Values.{there, vecs, options}
-use Rattle.reader.proofs.Runs.{runs-laws}
+use Rattle.reader.proofs.Values.{vecs, options, case-there}
+use Rattle.reader.proofs.Runs.{runs-stop, runs-end}
 use Rattle.reader.proofs.Fields.{stmt-fields}
 use borrow.Author.Needs.{needs}
 use Prim.Native.Nat.{ℕ, _<_, _+_, _*_}
@@ -53,10 +53,10 @@ abbrev μ-read-while : Measures 2 read-while-lts.ps ℕ
 μ-read-while κs a = 4 * a .1 .1 .1 .0 + 3
 
 abbrev read-body-Inv-loop : read-body-lts.InvT-loop
-read-body-Inv-loop s kinds at left first k₀ i₀ k i = forget (body (stmt (textsOf s) left) s at) ≡ forget (repeat noStmt moreStmt (stmt (textsOf s) left) i s k)
+read-body-Inv-loop s kinds at left n first k₀ i₀ k i = forget (body (stmt (textsOf s) left) s at) ≡ forget (repeat noStmt moreStmt (stmt (textsOf s) left) i s k)
 
 abbrev read-body-μ-loop : read-body-lts.MeasureT-loop
-read-body-μ-loop s kinds at left first k₀ i₀ k i = i
+read-body-μ-loop s kinds at left n first k₀ i₀ k i = i
 
 module _ (t : ℕ) where
   abbrev read-body-at : In 2 read-body-lts.ps
@@ -102,16 +102,16 @@ module _ (t : ℕ) where
   read-while-below κs a = (μ-read-while κs a < t) × read-while.Pre κs a
 
   abbrev read-body-calls : read-body-lts.Claims
-  read-body-calls = (fns.numbers.read_u16.Reads.Asked, fns.numbers.read_u16.Reads.Learnt, fns.numbers.two.Reads.Asked, fns.numbers.two.Reads.Learnt, read-stmt-below, read-stmt.Post)
+  read-body-calls = (fns.numbers.read_u16.Reads.Asked, fns.numbers.read_u16.Reads.Learnt, fns.answers.ReadNumber.into_read.Reads.Asked, fns.answers.ReadNumber.into_read.Reads.Learnt, read-stmt-below, read-stmt.Post)
 
   read-body-closed : {M : Type 1} → read-body-lts.Closed read-body-calls read-body-at read-body.Post M
   read-body-closed =
       read-body-lts.spec read-body-calls read-body-at read-body.Post read-body-Inv-loop read-body-μ-loop
       (λ c κs. search needs)  -- read-u16-requires: let a = read_u16(s, at);
-      (λ c. search needs)  -- enum-known-a: let Read::At(first) = a else {
-      (λ c. search needs)  -- enum-told: return a;
+      (λ c. search needs)  -- enum-known-a: let ReadNumber::At(n, first) = a else {
+      (λ c. search needs)  -- enum-told: return a.into_read();
+      (λ c κs. search needs)  -- into-read-requires
       (λ c. search (bodies, vecs))  -- returns
-      (λ c κs. search there)  -- two-requires: let mut i = two(s, at);
       (λ c. search (bodies, vecs))  -- loop-holds: while 0 < i {
       (λ c κs. search needs)  -- read-stmt-requires: let b = read_stmt(s, kinds, k, left);
       (λ c. search needs)  -- enum-known-b: let Read::At(next) = b else {
@@ -123,74 +123,79 @@ module _ (t : ℕ) where
       (λ c. search (bodies, vecs))  -- returns-3: pub fn read_body(s: &[u8], kinds: &[u8], at: usize, left: us ..
 
   abbrev read-else-calls : read-else-lts.Claims
-  read-else-calls = (fns.numbers.read_case.Reads.Asked, fns.numbers.read_case.Reads.Learnt, read-body-below, read-body.Post)
+  read-else-calls = (fns.numbers.read_case.Reads.Asked, fns.numbers.read_case.Reads.Learnt, fns.answers.ReadByte.into_read.Reads.Asked, fns.answers.ReadByte.into_read.Reads.Learnt, read-body-below, read-body.Post)
 
   read-else-closed : {M : Type 1} → read-else-lts.Closed read-else-calls read-else-at read-else.Post M
   read-else-closed =
       read-else-lts.spec read-else-calls read-else-at read-else.Post
       (λ c κs. search needs)  -- read-case-requires: let a = read_case(s, at, FLAGS);
-      (λ c. search needs)  -- enum-known-a: let Read::At(k) = a else {
-      (λ c. search needs)  -- enum-told: return a;
+      (λ c. search needs)  -- enum-known-a: let ReadByte::At(b, k) = a else {
+      (λ c. search needs)  -- enum-told: return a.into_read();
+      (λ c κs. search needs)  -- into-read-requires
       (λ c. search (else-is, options))  -- returns
-      (λ c. search there)  -- shared-slice-read-if1: if s[at] == 0 {
       (λ c. search (else-is, options))  -- returns-2: return Read::At(k);
       (λ c κs. search needs)  -- read-body-requires: read_body(s, kinds, k, left)
       (λ c. search (else-is, options))  -- returns-3: fn read_else(s: &[u8], kinds: &[u8], at: usize, left: usize) ..
 
   abbrev read-for-calls : read-for-lts.Claims
-  read-for-calls = (fns.texts.read_name.Reads.Asked, fns.texts.read_name.Reads.Learnt, fns.parts.read_type.Reads.Asked, fns.parts.read_type.Reads.Learnt, fns.parts.read_range.Reads.Asked, fns.parts.read_range.Reads.Learnt, read-body-below, read-body.Post, fns.numbers.read_span.Reads.Asked, fns.numbers.read_span.Reads.Learnt)
+  read-for-calls = (fns.texts.read_name.Reads.Asked, fns.texts.read_name.Reads.Learnt, fns.answers.ReadText.into_read.Reads.Asked, fns.answers.ReadText.into_read.Reads.Learnt, fns.parts.read_type.Reads.Asked, fns.parts.read_type.Reads.Learnt, fns.answers.ReadByte.into_read.Reads.Asked, fns.answers.ReadByte.into_read.Reads.Learnt, fns.parts.read_range.Reads.Asked, fns.parts.read_range.Reads.Learnt, read-body-below, read-body.Post, fns.numbers.read_span.Reads.Asked, fns.numbers.read_span.Reads.Learnt, fns.answers.ReadSpan.into_read.Reads.Asked, fns.answers.ReadSpan.into_read.Reads.Learnt)
 
   read-for-closed : {M : Type 1} → read-for-lts.Closed read-for-calls read-for-at read-for.Post M
   read-for-closed =
       read-for-lts.spec read-for-calls read-for-at read-for.Post
       (λ c. search needs)  -- add-read-name: let a = read_name(s, kinds, at + 1);
       (λ c κs. search needs)  -- read-name-requires
-      (λ c. search needs)  -- enum-known-a: let Read::At(k) = a else {
-      (λ c. search needs)  -- enum-told: return a;
-      (λ c. search (stmt-fields, runs-laws))  -- returns
+      (λ c. search needs)  -- enum-known-a: let ReadText::At(_, k) = a else {
+      (λ c. search needs)  -- enum-told: return a.into_read();
+      (λ c κs. search needs)  -- into-read-requires
+      (λ c. search (stmt-fields, runs-stop))  -- returns
       (λ c κs. search needs)  -- read-type-requires: let b = read_type(s, k);
-      (λ c. search needs)  -- enum-known-b: let Read::At(l) = b else {
-      (λ c. search needs)  -- enum-told-2: return b;
-      (λ c. search (stmt-fields, runs-laws))  -- returns-2
+      (λ c. search needs)  -- enum-known-b: let ReadByte::At(_, l) = b else {
+      (λ c. search needs)  -- enum-told-2: return b.into_read();
+      (λ c κs. search needs)  -- into-read-requires-2
+      (λ c. search (stmt-fields, runs-stop))  -- returns-2
       (λ c κs. search needs)  -- read-range-requires: let c = read_range(s, kinds, l);
       (λ c. search needs)  -- enum-known-c: let Read::At(m) = c else {
       (λ c. search needs)  -- enum-told-3: return c;
-      (λ c. search (stmt-fields, runs-laws))  -- returns-3
+      (λ c. search (stmt-fields, runs-stop))  -- returns-3
       (λ c κs. search needs)  -- read-body-requires: let d = read_body(s, kinds, m, left);
       (λ c. search needs)  -- enum-known-d: let Read::At(n) = d else {
       (λ c. search needs)  -- enum-told-4: return d;
-      (λ c. search (stmt-fields, runs-laws))  -- returns-4
-      (λ c κs. search needs)  -- read-span-requires: read_span(s, n)
-      (λ c. search (stmt-fields, runs-laws) depth 6)  -- returns-5: fn read_for(s: &[u8], kinds: &[u8], at: usize, left: usize)  ..
+      (λ c. search (stmt-fields, runs-stop))  -- returns-4
+      (λ c κs. search needs)  -- read-span-requires: read_span(s, n).into_read()
+      (λ c κs. search needs)  -- into-read-requires-3
+      (λ c. search (stmt-fields, runs-end) depth 6)  -- returns-5: fn read_for(s: &[u8], kinds: &[u8], at: usize, left: usize)  ..
 
   abbrev read-gate-def-calls : read-gate-def-lts.Claims
-  read-gate-def-calls = (fns.texts.read_name.Reads.Asked, fns.texts.read_name.Reads.Learnt, fns.parts.read_names.Reads.Asked, fns.parts.read_names.Reads.Learnt, read-body-below, read-body.Post, fns.numbers.read_span.Reads.Asked, fns.numbers.read_span.Reads.Learnt)
+  read-gate-def-calls = (fns.texts.read_name.Reads.Asked, fns.texts.read_name.Reads.Learnt, fns.answers.ReadText.into_read.Reads.Asked, fns.answers.ReadText.into_read.Reads.Learnt, fns.parts.read_names.Reads.Asked, fns.parts.read_names.Reads.Learnt, read-body-below, read-body.Post, fns.numbers.read_span.Reads.Asked, fns.numbers.read_span.Reads.Learnt, fns.answers.ReadSpan.into_read.Reads.Asked, fns.answers.ReadSpan.into_read.Reads.Learnt)
 
   read-gate-def-closed : {M : Type 1} → read-gate-def-lts.Closed read-gate-def-calls read-gate-def-at read-gate-def.Post M
   read-gate-def-closed =
       read-gate-def-lts.spec read-gate-def-calls read-gate-def-at read-gate-def.Post
       (λ c. search needs)  -- add-read-name: let a = read_name(s, kinds, at + 1);
       (λ c κs. search needs)  -- read-name-requires
-      (λ c. search needs)  -- enum-known-a: let Read::At(k) = a else {
-      (λ c. search needs)  -- enum-told: return a;
-      (λ c. search (stmt-fields, runs-laws))  -- returns
+      (λ c. search needs)  -- enum-known-a: let ReadText::At(_, k) = a else {
+      (λ c. search needs)  -- enum-told: return a.into_read();
+      (λ c κs. search needs)  -- into-read-requires
+      (λ c. search (stmt-fields, runs-stop))  -- returns
       (λ c κs. search needs)  -- read-names-requires: let b = read_names(s, kinds, k);
       (λ c. search needs)  -- enum-known-b: let Read::At(l) = b else {
       (λ c. search needs)  -- enum-told-2: return b;
-      (λ c. search (stmt-fields, runs-laws))  -- returns-2
+      (λ c. search (stmt-fields, runs-stop))  -- returns-2
       (λ c κs. search needs)  -- read-names-requires-2: let c = read_names(s, kinds, l);
       (λ c. search needs)  -- enum-known-c: let Read::At(m) = c else {
       (λ c. search needs)  -- enum-told-3: return c;
-      (λ c. search (stmt-fields, runs-laws))  -- returns-3
+      (λ c. search (stmt-fields, runs-stop))  -- returns-3
       (λ c κs. search needs)  -- read-body-requires: let d = read_body(s, kinds, m, left);
       (λ c. search needs)  -- enum-known-d: let Read::At(n) = d else {
       (λ c. search needs)  -- enum-told-4: return d;
-      (λ c. search (stmt-fields, runs-laws))  -- returns-4
-      (λ c κs. search needs)  -- read-span-requires: read_span(s, n)
-      (λ c. search (stmt-fields, runs-laws) depth 6)  -- returns-5: fn read_gate_def(s: &[u8], kinds: &[u8], at: usize, left: us ..
+      (λ c. search (stmt-fields, runs-stop))  -- returns-4
+      (λ c κs. search needs)  -- read-span-requires: read_span(s, n).into_read()
+      (λ c κs. search needs)  -- into-read-requires-2
+      (λ c. search (stmt-fields, runs-end) depth 6)  -- returns-5: fn read_gate_def(s: &[u8], kinds: &[u8], at: usize, left: us ..
 
   abbrev read-if-calls : read-if-lts.Claims
-  read-if-calls = (fns.exprs.read_held.Reads.Asked, fns.exprs.read_held.Reads.Learnt, read-body-below, read-body.Post, read-else-below, read-else.Post, fns.numbers.read_span.Reads.Asked, fns.numbers.read_span.Reads.Learnt)
+  read-if-calls = (fns.exprs.read_held.Reads.Asked, fns.exprs.read_held.Reads.Learnt, read-body-below, read-body.Post, read-else-below, read-else.Post, fns.numbers.read_span.Reads.Asked, fns.numbers.read_span.Reads.Learnt, fns.answers.ReadSpan.into_read.Reads.Asked, fns.answers.ReadSpan.into_read.Reads.Learnt)
 
   read-if-closed : {M : Type 1} → read-if-lts.Closed read-if-calls read-if-at read-if.Post M
   read-if-closed =
@@ -199,49 +204,50 @@ module _ (t : ℕ) where
       (λ c κs. search needs)  -- read-held-requires
       (λ c. search needs)  -- enum-known-a: let Read::At(k) = a else {
       (λ c. search needs)  -- enum-told: return a;
-      (λ c. search (stmt-fields, runs-laws))  -- returns
+      (λ c. search (stmt-fields, runs-stop))  -- returns
       (λ c κs. search needs)  -- read-body-requires: let b = read_body(s, kinds, k, left);
       (λ c. search needs)  -- enum-known-b: let Read::At(l) = b else {
       (λ c. search needs)  -- enum-told-2: return b;
-      (λ c. search (stmt-fields, runs-laws))  -- returns-2
+      (λ c. search (stmt-fields, runs-stop))  -- returns-2
       (λ c κs. search needs)  -- read-else-requires: let c = read_else(s, kinds, l, left);
       (λ c. search needs)  -- enum-known-c: let Read::At(m) = c else {
       (λ c. search needs)  -- enum-told-3: return c;
-      (λ c. search (stmt-fields, runs-laws))  -- returns-3
-      (λ c κs. search needs)  -- read-span-requires: read_span(s, m)
-      (λ c. search (stmt-fields, runs-laws))  -- returns-4: fn read_if(s: &[u8], kinds: &[u8], at: usize, left: usize) - ..
+      (λ c. search (stmt-fields, runs-stop))  -- returns-3
+      (λ c κs. search needs)  -- read-span-requires: read_span(s, m).into_read()
+      (λ c κs. search needs)  -- into-read-requires
+      (λ c. search (stmt-fields, runs-end))  -- returns-4: fn read_if(s: &[u8], kinds: &[u8], at: usize, left: usize) - ..
 
   abbrev read-stmt-calls : read-stmt-lts.Claims
-  read-stmt-calls = (fns.numbers.read_case.Reads.Asked, fns.numbers.read_case.Reads.Learnt, fns.stmts.read_include.Reads.Asked, fns.stmts.read_include.Reads.Learnt, fns.stmts.read_qubit_decl.Reads.Asked, fns.stmts.read_qubit_decl.Reads.Learnt, fns.stmts.read_bit_decl.Reads.Asked, fns.stmts.read_bit_decl.Reads.Learnt, fns.stmts.read_classical_decl.Reads.Asked, fns.stmts.read_classical_decl.Reads.Learnt, fns.stmts.read_assignment.Reads.Asked, fns.stmts.read_assignment.Reads.Learnt, fns.stmts.read_gate_call.Reads.Asked, fns.stmts.read_gate_call.Reads.Learnt, read-gate-def-below, read-gate-def.Post, fns.stmts.read_function_def.Reads.Asked, fns.stmts.read_function_def.Reads.Learnt, fns.stmts.read_measure.Reads.Asked, fns.stmts.read_measure.Reads.Learnt, fns.stmts.read_reset.Reads.Asked, fns.stmts.read_reset.Reads.Learnt, fns.stmts.read_barrier.Reads.Asked, fns.stmts.read_barrier.Reads.Learnt, fns.stmts.read_delay.Reads.Asked, fns.stmts.read_delay.Reads.Learnt, read-if-below, read-if.Post, read-for-below, read-for.Post, read-while-below, read-while.Post)
+  read-stmt-calls = (fns.numbers.read_case.Reads.Asked, fns.numbers.read_case.Reads.Learnt, fns.answers.ReadByte.into_read.Reads.Asked, fns.answers.ReadByte.into_read.Reads.Learnt, fns.stmts.read_include.Reads.Asked, fns.stmts.read_include.Reads.Learnt, fns.stmts.read_qubit_decl.Reads.Asked, fns.stmts.read_qubit_decl.Reads.Learnt, fns.stmts.read_bit_decl.Reads.Asked, fns.stmts.read_bit_decl.Reads.Learnt, fns.stmts.read_classical_decl.Reads.Asked, fns.stmts.read_classical_decl.Reads.Learnt, fns.stmts.read_assignment.Reads.Asked, fns.stmts.read_assignment.Reads.Learnt, fns.stmts.read_gate_call.Reads.Asked, fns.stmts.read_gate_call.Reads.Learnt, read-gate-def-below, read-gate-def.Post, fns.stmts.read_function_def.Reads.Asked, fns.stmts.read_function_def.Reads.Learnt, fns.stmts.read_measure.Reads.Asked, fns.stmts.read_measure.Reads.Learnt, fns.stmts.read_reset.Reads.Asked, fns.stmts.read_reset.Reads.Learnt, fns.stmts.read_barrier.Reads.Asked, fns.stmts.read_barrier.Reads.Learnt, fns.stmts.read_delay.Reads.Asked, fns.stmts.read_delay.Reads.Learnt, read-if-below, read-if.Post, read-for-below, read-for.Post, read-while-below, read-while.Post)
 
   read-stmt-closed : {M : Type 1} → read-stmt-lts.Closed read-stmt-calls read-stmt-at read-stmt.Post M
   read-stmt-closed =
       read-stmt-lts.spec read-stmt-calls read-stmt-at read-stmt.Post
-      (λ c κs. search (needs, there))  -- read-case-requires: let a = read_case(s, at, STMT_CASES);
-      (λ c. search needs)  -- enum-told
-      (λ c. search needs)  -- enum-told-2: return a;
+      (λ c κs. search needs)  -- read-case-requires: let a = read_case(s, at, STMT_CASES);
+      (λ c. search needs)  -- enum-known-a: let ReadByte::At(b, _) = a else {
+      (λ c. search needs)  -- enum-told: return a.into_read();
+      (λ c κs. search needs)  -- into-read-requires
       (λ c. search statements)  -- returns
       (λ c. search statements)  -- returns-2: return Read::Refused(6, at);
-      (λ c. search there)  -- shared-slice-read-match2: match s[at] {
-      (λ c κs. search (needs, there))  -- read-include-requires: 0 => stmts::read_include(s, kinds, at),
-      (λ c κs. search (needs, there))  -- read-qubit-decl-requires: 1 => stmts::read_qubit_decl(s, kinds, at),
-      (λ c κs. search (needs, there))  -- read-bit-decl-requires: 2 => stmts::read_bit_decl(s, kinds, at),
-      (λ c κs. search (needs, there))  -- read-classical-decl-requires: 3 => stmts::read_classical_decl(s, kinds, at),
-      (λ c κs. search (needs, there))  -- read-assignment-requires: 4 => stmts::read_assignment(s, kinds, at),
-      (λ c κs. search (needs, there))  -- read-gate-call-requires: 5 => stmts::read_gate_call(s, kinds, at),
+      (λ c κs. search (needs, case-there))  -- read-include-requires: 0 => stmts::read_include(s, kinds, at),
+      (λ c κs. search (needs, case-there))  -- read-qubit-decl-requires: 1 => stmts::read_qubit_decl(s, kinds, at),
+      (λ c κs. search (needs, case-there))  -- read-bit-decl-requires: 2 => stmts::read_bit_decl(s, kinds, at),
+      (λ c κs. search (needs, case-there))  -- read-classical-decl-requires: 3 => stmts::read_classical_decl(s, kinds, at),
+      (λ c κs. search (needs, case-there))  -- read-assignment-requires: 4 => stmts::read_assignment(s, kinds, at),
+      (λ c κs. search (needs, case-there))  -- read-gate-call-requires: 5 => stmts::read_gate_call(s, kinds, at),
       (λ c. search needs)  -- sub-read-gate-def: 6 => read_gate_def(s, kinds, at, left - 1),
-      (λ c κs. search (needs, there))  -- read-gate-def-requires
-      (λ c κs. search (needs, there))  -- read-function-def-requires: 7 => stmts::read_function_def(s, kinds, at),
-      (λ c κs. search (needs, there))  -- read-measure-requires: 8 => stmts::read_measure(s, kinds, at),
-      (λ c κs. search (needs, there))  -- read-reset-requires: 9 => stmts::read_reset(s, kinds, at),
-      (λ c κs. search (needs, there))  -- read-barrier-requires: 10 => stmts::read_barrier(s, kinds, at),
-      (λ c κs. search (needs, there))  -- read-delay-requires: 11 => stmts::read_delay(s, kinds, at),
+      (λ c κs. search (needs, case-there))  -- read-gate-def-requires
+      (λ c κs. search (needs, case-there))  -- read-function-def-requires: 7 => stmts::read_function_def(s, kinds, at),
+      (λ c κs. search (needs, case-there))  -- read-measure-requires: 8 => stmts::read_measure(s, kinds, at),
+      (λ c κs. search (needs, case-there))  -- read-reset-requires: 9 => stmts::read_reset(s, kinds, at),
+      (λ c κs. search (needs, case-there))  -- read-barrier-requires: 10 => stmts::read_barrier(s, kinds, at),
+      (λ c κs. search (needs, case-there))  -- read-delay-requires: 11 => stmts::read_delay(s, kinds, at),
       (λ c. search needs)  -- sub-read-if: 12 => read_if(s, kinds, at, left - 1),
-      (λ c κs. search (needs, there))  -- read-if-requires
+      (λ c κs. search (needs, case-there))  -- read-if-requires
       (λ c. search needs)  -- sub-read-for: 13 => read_for(s, kinds, at, left - 1),
-      (λ c κs. search (needs, there))  -- read-for-requires
+      (λ c κs. search (needs, case-there))  -- read-for-requires
       (λ c. search needs)  -- sub-read-while: _ => read_while(s, kinds, at, left - 1),
-      (λ c κs. search (needs, there))  -- read-while-requires
+      (λ c κs. search (needs, case-there))  -- read-while-requires
       (λ c. search statements)  -- returns-3: fn read_stmt(s: &[u8], kinds: &[u8], at: usize, left: usize) ..
       (λ c. search statements)  -- returns-4
       (λ c. search statements)  -- returns-5
@@ -259,7 +265,7 @@ module _ (t : ℕ) where
       (λ c. search statements)  -- returns-17
 
   abbrev read-while-calls : read-while-lts.Claims
-  read-while-calls = (fns.exprs.read_held.Reads.Asked, fns.exprs.read_held.Reads.Learnt, read-body-below, read-body.Post, fns.numbers.read_span.Reads.Asked, fns.numbers.read_span.Reads.Learnt)
+  read-while-calls = (fns.exprs.read_held.Reads.Asked, fns.exprs.read_held.Reads.Learnt, read-body-below, read-body.Post, fns.numbers.read_span.Reads.Asked, fns.numbers.read_span.Reads.Learnt, fns.answers.ReadSpan.into_read.Reads.Asked, fns.answers.ReadSpan.into_read.Reads.Learnt)
 
   read-while-closed : {M : Type 1} → read-while-lts.Closed read-while-calls read-while-at read-while.Post M
   read-while-closed =
@@ -268,13 +274,14 @@ module _ (t : ℕ) where
       (λ c κs. search needs)  -- read-held-requires
       (λ c. search needs)  -- enum-known-a: let Read::At(k) = a else {
       (λ c. search needs)  -- enum-told: return a;
-      (λ c. search (stmt-fields, runs-laws))  -- returns
+      (λ c. search (stmt-fields, runs-stop))  -- returns
       (λ c κs. search needs)  -- read-body-requires: let b = read_body(s, kinds, k, left);
       (λ c. search needs)  -- enum-known-b: let Read::At(l) = b else {
       (λ c. search needs)  -- enum-told-2: return b;
-      (λ c. search (stmt-fields, runs-laws))  -- returns-2
-      (λ c κs. search needs)  -- read-span-requires: read_span(s, l)
-      (λ c. search (stmt-fields, runs-laws))  -- returns-3: fn read_while(s: &[u8], kinds: &[u8], at: usize, left: usize ..
+      (λ c. search (stmt-fields, runs-stop))  -- returns-2
+      (λ c κs. search needs)  -- read-span-requires: read_span(s, l).into_read()
+      (λ c κs. search needs)  -- into-read-requires
+      (λ c. search (stmt-fields, runs-end))  -- returns-3: fn read_while(s: &[u8], kinds: &[u8], at: usize, left: usize ..
 
 pub +read-body+read-else+read-for+read-gate-def+read-if+read-stmt+read-while-spec : {M : Type 1} → statement M
 +read-body+read-else+read-for+read-gate-def+read-if+read-stmt+read-while-spec =

@@ -6,8 +6,8 @@ use Rattle.tree.specs.Exprs.{expr, exprs}
 use Rattle.reader.specs.Answers.{forget}
 use mathlib.Core.Path.{_≡_}
 use Rattle.reader.proofs.Cases.{expressions}
-use Rattle.reader.proofs.Values.{there, vecs}
-use Rattle.reader.proofs.Runs.{runs-laws}
+use Rattle.reader.proofs.Values.{vecs}
+use Rattle.reader.proofs.Runs.{runs-stop, runs-end}
 use Rattle.reader.proofs.Fields.{fields}
 use borrow.Author.Needs.{needs}
 use Prim.Native.Nat.{ℕ, _<_, _+_, _*_}
@@ -48,10 +48,10 @@ abbrev μ-read-neg : Measures 2 read-neg-lts.ps ℕ
 μ-read-neg κs a = 3 * a .1 .1 .1 .0 + 2
 
 abbrev read-args-Inv-loop : read-args-lts.InvT-loop
-read-args-Inv-loop s kinds at left first k₀ i₀ k i = forget (exprs (expr (textsOf s) left) s at) ≡ forget (repeat noExpr moreExpr (expr (textsOf s) left) i s k)
+read-args-Inv-loop s kinds at left n first k₀ i₀ k i = forget (exprs (expr (textsOf s) left) s at) ≡ forget (repeat noExpr moreExpr (expr (textsOf s) left) i s k)
 
 abbrev read-args-μ-loop : read-args-lts.MeasureT-loop
-read-args-μ-loop s kinds at left first k₀ i₀ k i = i
+read-args-μ-loop s kinds at left n first k₀ i₀ k i = i
 
 module _ (t : ℕ) where
   abbrev read-args-at : In 2 read-args-lts.ps
@@ -91,16 +91,16 @@ module _ (t : ℕ) where
   read-neg-below κs a = (μ-read-neg κs a < t) × read-neg.Pre κs a
 
   abbrev read-args-calls : read-args-lts.Claims
-  read-args-calls = (fns.numbers.read_count.Reads.Asked, fns.numbers.read_count.Reads.Learnt, read-expr-below, read-expr.Post)
+  read-args-calls = (fns.numbers.read_count.Reads.Asked, fns.numbers.read_count.Reads.Learnt, fns.answers.ReadByte.into_read.Reads.Asked, fns.answers.ReadByte.into_read.Reads.Learnt, read-expr-below, read-expr.Post)
 
   read-args-closed : {M : Type 1} → read-args-lts.Closed read-args-calls read-args-at read-args.Post M
   read-args-closed =
       read-args-lts.spec read-args-calls read-args-at read-args.Post read-args-Inv-loop read-args-μ-loop
       (λ c κs. search needs)  -- read-count-requires: let a = read_count(s, at);
-      (λ c. search needs)  -- enum-known-a: let Read::At(first) = a else {
-      (λ c. search needs)  -- enum-told: return a;
+      (λ c. search needs)  -- enum-known-a: let ReadByte::At(n, first) = a else {
+      (λ c. search needs)  -- enum-told: return a.into_read();
+      (λ c κs. search needs)  -- into-read-requires
       (λ c. search vecs)  -- returns
-      (λ c. search there)  -- shared-slice-read-i: let mut i = s[at];
       (λ c. search vecs)  -- loop-holds: while 0 < i {
       (λ c κs. search needs)  -- read-expr-requires: let b = read_expr(s, kinds, k, left);
       (λ c. search needs)  -- enum-known-b: let Read::At(next) = b else {
@@ -112,76 +112,82 @@ module _ (t : ℕ) where
       (λ c. search vecs)  -- returns-3: fn read_args(s: &[u8], kinds: &[u8], at: usize, left: usize) ..
 
   abbrev read-binary-calls : read-binary-lts.Claims
-  read-binary-calls = (fns.numbers.read_case.Reads.Asked, fns.numbers.read_case.Reads.Learnt, read-expr-below, read-expr.Post, fns.numbers.read_span.Reads.Asked, fns.numbers.read_span.Reads.Learnt)
+  read-binary-calls = (fns.numbers.read_case.Reads.Asked, fns.numbers.read_case.Reads.Learnt, fns.answers.ReadByte.into_read.Reads.Asked, fns.answers.ReadByte.into_read.Reads.Learnt, read-expr-below, read-expr.Post, fns.numbers.read_span.Reads.Asked, fns.numbers.read_span.Reads.Learnt, fns.answers.ReadSpan.into_read.Reads.Asked, fns.answers.ReadSpan.into_read.Reads.Learnt)
 
   read-binary-closed : {M : Type 1} → read-binary-lts.Closed read-binary-calls read-binary-at read-binary.Post M
   read-binary-closed =
       read-binary-lts.spec read-binary-calls read-binary-at read-binary.Post
       (λ c κs. search needs)  -- read-case-requires: let a = read_case(s, at, BIN_OPS);
-      (λ c. search needs)  -- enum-known-a: let Read::At(k) = a else {
-      (λ c. search needs)  -- enum-told: return a;
-      (λ c. search (fields, runs-laws))  -- returns
+      (λ c. search needs)  -- enum-known-a: let ReadByte::At(_, k) = a else {
+      (λ c. search needs)  -- enum-told: return a.into_read();
+      (λ c κs. search needs)  -- into-read-requires
+      (λ c. search (fields, runs-stop))  -- returns
       (λ c κs. search needs)  -- read-expr-requires: let b = read_expr(s, kinds, k, left);
       (λ c. search needs)  -- enum-known-b: let Read::At(l) = b else {
       (λ c. search needs)  -- enum-told-2: return b;
-      (λ c. search (fields, runs-laws))  -- returns-2
+      (λ c. search (fields, runs-stop))  -- returns-2
       (λ c κs. search needs)  -- read-expr-requires-2: let c = read_expr(s, kinds, l, left);
       (λ c. search needs)  -- enum-known-c: let Read::At(m) = c else {
       (λ c. search needs)  -- enum-told-3: return c;
-      (λ c. search (fields, runs-laws))  -- returns-3
-      (λ c κs. search needs)  -- read-span-requires: read_span(s, m)
-      (λ c. search (fields, runs-laws))  -- returns-4: fn read_binary(s: &[u8], kinds: &[u8], at: usize, left: usiz ..
+      (λ c. search (fields, runs-stop))  -- returns-3
+      (λ c κs. search needs)  -- read-span-requires: read_span(s, m).into_read()
+      (λ c κs. search needs)  -- into-read-requires-2
+      (λ c. search (fields, runs-end))  -- returns-4: fn read_binary(s: &[u8], kinds: &[u8], at: usize, left: usiz ..
 
   abbrev read-call-calls : read-call-lts.Claims
-  read-call-calls = (fns.texts.read_name.Reads.Asked, fns.texts.read_name.Reads.Learnt, read-args-below, read-args.Post, fns.numbers.read_span.Reads.Asked, fns.numbers.read_span.Reads.Learnt)
+  read-call-calls = (fns.texts.read_name.Reads.Asked, fns.texts.read_name.Reads.Learnt, fns.answers.ReadText.into_read.Reads.Asked, fns.answers.ReadText.into_read.Reads.Learnt, read-args-below, read-args.Post, fns.numbers.read_span.Reads.Asked, fns.numbers.read_span.Reads.Learnt, fns.answers.ReadSpan.into_read.Reads.Asked, fns.answers.ReadSpan.into_read.Reads.Learnt)
 
   read-call-closed : {M : Type 1} → read-call-lts.Closed read-call-calls read-call-at read-call.Post M
   read-call-closed =
       read-call-lts.spec read-call-calls read-call-at read-call.Post
       (λ c κs. search needs)  -- read-name-requires: let a = read_name(s, kinds, at);
-      (λ c. search needs)  -- enum-known-a: let Read::At(k) = a else {
-      (λ c. search needs)  -- enum-told: return a;
-      (λ c. search (fields, runs-laws))  -- returns
+      (λ c. search needs)  -- enum-known-a: let ReadText::At(_, k) = a else {
+      (λ c. search needs)  -- enum-told: return a.into_read();
+      (λ c κs. search needs)  -- into-read-requires
+      (λ c. search (fields, runs-stop))  -- returns
       (λ c κs. search needs)  -- read-args-requires: let b = read_args(s, kinds, k, left);
       (λ c. search needs)  -- enum-known-b: let Read::At(l) = b else {
       (λ c. search needs)  -- enum-told-2: return b;
-      (λ c. search (fields, runs-laws))  -- returns-2
-      (λ c κs. search needs)  -- read-span-requires: read_span(s, l)
-      (λ c. search (fields, runs-laws))  -- returns-3: fn read_call(s: &[u8], kinds: &[u8], at: usize, left: usize) ..
+      (λ c. search (fields, runs-stop))  -- returns-2
+      (λ c κs. search needs)  -- read-span-requires: read_span(s, l).into_read()
+      (λ c κs. search needs)  -- into-read-requires-2
+      (λ c. search (fields, runs-end))  -- returns-3: fn read_call(s: &[u8], kinds: &[u8], at: usize, left: usize) ..
 
   abbrev read-compare-calls : read-compare-lts.Claims
-  read-compare-calls = (fns.numbers.read_case.Reads.Asked, fns.numbers.read_case.Reads.Learnt, read-expr-below, read-expr.Post, fns.numbers.read_span.Reads.Asked, fns.numbers.read_span.Reads.Learnt)
+  read-compare-calls = (fns.numbers.read_case.Reads.Asked, fns.numbers.read_case.Reads.Learnt, fns.answers.ReadByte.into_read.Reads.Asked, fns.answers.ReadByte.into_read.Reads.Learnt, read-expr-below, read-expr.Post, fns.numbers.read_span.Reads.Asked, fns.numbers.read_span.Reads.Learnt, fns.answers.ReadSpan.into_read.Reads.Asked, fns.answers.ReadSpan.into_read.Reads.Learnt)
 
   read-compare-closed : {M : Type 1} → read-compare-lts.Closed read-compare-calls read-compare-at read-compare.Post M
   read-compare-closed =
       read-compare-lts.spec read-compare-calls read-compare-at read-compare.Post
       (λ c κs. search needs)  -- read-case-requires: let a = read_case(s, at, COMPARE_OPS);
-      (λ c. search needs)  -- enum-known-a: let Read::At(k) = a else {
-      (λ c. search needs)  -- enum-told: return a;
-      (λ c. search (fields, runs-laws))  -- returns
+      (λ c. search needs)  -- enum-known-a: let ReadByte::At(_, k) = a else {
+      (λ c. search needs)  -- enum-told: return a.into_read();
+      (λ c κs. search needs)  -- into-read-requires
+      (λ c. search (fields, runs-stop))  -- returns
       (λ c κs. search needs)  -- read-expr-requires: let b = read_expr(s, kinds, k, left);
       (λ c. search needs)  -- enum-known-b: let Read::At(l) = b else {
       (λ c. search needs)  -- enum-told-2: return b;
-      (λ c. search (fields, runs-laws))  -- returns-2
+      (λ c. search (fields, runs-stop))  -- returns-2
       (λ c κs. search needs)  -- read-expr-requires-2: let c = read_expr(s, kinds, l, left);
       (λ c. search needs)  -- enum-known-c: let Read::At(m) = c else {
       (λ c. search needs)  -- enum-told-3: return c;
-      (λ c. search (fields, runs-laws))  -- returns-3
-      (λ c κs. search needs)  -- read-span-requires: read_span(s, m)
-      (λ c. search (fields, runs-laws))  -- returns-4: fn read_compare(s: &[u8], kinds: &[u8], at: usize, left: usi ..
+      (λ c. search (fields, runs-stop))  -- returns-3
+      (λ c κs. search needs)  -- read-span-requires: read_span(s, m).into_read()
+      (λ c κs. search needs)  -- into-read-requires-2
+      (λ c. search (fields, runs-end))  -- returns-4: fn read_compare(s: &[u8], kinds: &[u8], at: usize, left: usi ..
 
   abbrev read-expr-calls : read-expr-lts.Claims
-  read-expr-calls = (fns.numbers.read_case.Reads.Asked, fns.numbers.read_case.Reads.Learnt, fns.exprs.read_int_lit.Reads.Asked, fns.exprs.read_int_lit.Reads.Learnt, fns.exprs.read_float_lit.Reads.Asked, fns.exprs.read_float_lit.Reads.Learnt, fns.exprs.read_bool_lit.Reads.Asked, fns.exprs.read_bool_lit.Reads.Learnt, fns.exprs.read_ident.Reads.Asked, fns.exprs.read_ident.Reads.Learnt, fns.exprs.read_index.Reads.Asked, fns.exprs.read_index.Reads.Learnt, read-call-below, read-call.Post, fns.exprs.read_const.Reads.Asked, fns.exprs.read_const.Reads.Learnt, read-neg-below, read-neg.Post, read-binary-below, read-binary.Post, read-compare-below, read-compare.Post)
+  read-expr-calls = (fns.numbers.read_case.Reads.Asked, fns.numbers.read_case.Reads.Learnt, fns.answers.ReadByte.into_read.Reads.Asked, fns.answers.ReadByte.into_read.Reads.Learnt, fns.exprs.read_int_lit.Reads.Asked, fns.exprs.read_int_lit.Reads.Learnt, fns.exprs.read_float_lit.Reads.Asked, fns.exprs.read_float_lit.Reads.Learnt, fns.exprs.read_bool_lit.Reads.Asked, fns.exprs.read_bool_lit.Reads.Learnt, fns.exprs.read_ident.Reads.Asked, fns.exprs.read_ident.Reads.Learnt, fns.exprs.read_index.Reads.Asked, fns.exprs.read_index.Reads.Learnt, read-call-below, read-call.Post, fns.exprs.read_const.Reads.Asked, fns.exprs.read_const.Reads.Learnt, read-neg-below, read-neg.Post, read-binary-below, read-binary.Post, read-compare-below, read-compare.Post)
 
   read-expr-closed : {M : Type 1} → read-expr-lts.Closed read-expr-calls read-expr-at read-expr.Post M
   read-expr-closed =
       read-expr-lts.spec read-expr-calls read-expr-at read-expr.Post
       (λ c κs. search needs)  -- read-case-requires: let a = read_case(s, at, EXPR_CASES);
-      (λ c. search needs)  -- enum-known-a: let Read::At(k) = a else {
-      (λ c. search needs)  -- enum-told: return a;
+      (λ c. search needs)  -- enum-known-a: let ReadByte::At(b, k) = a else {
+      (λ c. search needs)  -- enum-told: return a.into_read();
+      (λ c κs. search needs)  -- into-read-requires
       (λ c. search expressions)  -- returns
       (λ c. search expressions)  -- returns-2: return Read::Refused(6, at);
-      (λ c. search there)  -- shared-slice-read-match2: match s[at] {
       (λ c κs. search needs)  -- read-int-lit-requires: 0 => read_int_lit(s, k),
       (λ c κs. search needs)  -- read-float-lit-requires: 1 => read_float_lit(s, kinds, k),
       (λ c κs. search needs)  -- read-bool-lit-requires: 2 => read_bool_lit(s, k),
@@ -208,7 +214,7 @@ module _ (t : ℕ) where
       (λ c. search expressions)  -- returns-12
 
   abbrev read-neg-calls : read-neg-lts.Claims
-  read-neg-calls = (read-expr-below, read-expr.Post, fns.numbers.read_span.Reads.Asked, fns.numbers.read_span.Reads.Learnt)
+  read-neg-calls = (read-expr-below, read-expr.Post, fns.numbers.read_span.Reads.Asked, fns.numbers.read_span.Reads.Learnt, fns.answers.ReadSpan.into_read.Reads.Asked, fns.answers.ReadSpan.into_read.Reads.Learnt)
 
   read-neg-closed : {M : Type 1} → read-neg-lts.Closed read-neg-calls read-neg-at read-neg.Post M
   read-neg-closed =
@@ -216,9 +222,10 @@ module _ (t : ℕ) where
       (λ c κs. search needs)  -- read-expr-requires: let a = read_expr(s, kinds, at, left);
       (λ c. search needs)  -- enum-known-a: let Read::At(k) = a else {
       (λ c. search needs)  -- enum-told: return a;
-      (λ c. search (fields, runs-laws))  -- returns
-      (λ c κs. search needs)  -- read-span-requires: read_span(s, k)
-      (λ c. search (fields, runs-laws))  -- returns-2: fn read_neg(s: &[u8], kinds: &[u8], at: usize, left: usize)  ..
+      (λ c. search (fields, runs-stop))  -- returns
+      (λ c κs. search needs)  -- read-span-requires: read_span(s, k).into_read()
+      (λ c κs. search needs)  -- into-read-requires
+      (λ c. search (fields, runs-end))  -- returns-2: fn read_neg(s: &[u8], kinds: &[u8], at: usize, left: usize)  ..
 
 pub +read-args+read-binary+read-call+read-compare+read-expr+read-neg-spec : {M : Type 1} → statement M
 +read-args+read-binary+read-call+read-compare+read-expr+read-neg-spec =

@@ -1,5 +1,5 @@
 -- `reader::numbers::read_count` meets its contract. Assumes nothing.
-use Rattle.reader.proofs.Values.{number-laws}
+use Rattle.reader.proofs.Leaves.{leaves}
 use borrow.Author.Needs.{needs}
 use Rattle.reader.proofs.numbers.read_count.Statement.{statement}
 use Rattle.reader.proofs.numbers.read_count.Tie as tie
@@ -7,8 +7,9 @@ use Rattle.reader.proofs.numbers.read_count.Tie as tie
 pub read-count-spec : {M : Type 1} → statement M
 read-count-spec =
     tie.close (tie.spec
-    (λ c. search number-laws)  -- returns
-    (λ c. search needs)  -- shared-slice-read-if2
-    (λ c. search number-laws)  -- returns-2
-    (λ c. search needs)  -- add-t3
-    (λ c. search number-laws))  -- returns-3
+    (λ c κs. search needs)  -- read-byte-requires
+    (λ c. search needs)  -- enum-known-a
+    (λ c. search needs)  -- enum-told
+    (λ c. search leaves)  -- returns
+    (λ c. search leaves)  -- returns-2
+    (λ c. search leaves))  -- returns-3

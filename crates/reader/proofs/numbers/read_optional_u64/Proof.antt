@@ -1,5 +1,5 @@
 -- `reader::numbers::read_optional_u64` meets its contract. Assumes nothing.
-use Rattle.reader.proofs.Values.{options, there}
+use Rattle.reader.proofs.Values.{options}
 use borrow.Author.Needs.{needs}
 use Rattle.reader.proofs.numbers.read_optional_u64.Statement.{statement}
 use Rattle.reader.proofs.numbers.read_optional_u64.Tie as tie
@@ -10,8 +10,9 @@ read-optional-u64-spec =
     (λ c κs. search needs)  -- read-case-requires
     (λ c. search needs)  -- enum-known-a
     (λ c. search needs)  -- enum-told
+    (λ c κs. search needs)  -- into-read-requires
     (λ c. search options)  -- returns
-    (λ c. search there)  -- shared-slice-read-if1
     (λ c. search options)  -- returns-2
     (λ c κs. search needs)  -- read-u64-requires
+    (λ c κs. search needs)  -- into-read-requires-2
     (λ c. search options))  -- returns-3

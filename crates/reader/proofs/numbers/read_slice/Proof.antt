@@ -1,5 +1,6 @@
 -- `reader::numbers::read_slice` meets its contract. Assumes nothing.
-use Rattle.reader.proofs.Values.{number-laws}
+use Rattle.reader.proofs.Runs.{runs-stop, runs-end}
+use Rattle.reader.proofs.Values.{slice-is}
 use borrow.Author.Needs.{needs}
 use Rattle.reader.proofs.numbers.read_slice.Statement.{statement}
 use Rattle.reader.proofs.numbers.read_slice.Tie as tie
@@ -7,5 +8,11 @@ use Rattle.reader.proofs.numbers.read_slice.Tie as tie
 pub read-slice-spec : {M : Type 1} → statement M
 read-slice-spec =
     tie.close (tie.spec
-    (λ c κs. search needs)  -- read-number-requires
-    (λ c. search number-laws))  -- returns
+    (λ c κs. search needs)  -- read-u64-requires
+    (λ c. search needs)  -- enum-known-a
+    (λ c. search needs)  -- enum-told
+    (λ c κs. search needs)  -- into-read-requires
+    (λ c. search (slice-is, runs-stop))  -- returns
+    (λ c κs. search needs)  -- read-u64-requires-2
+    (λ c κs. search needs)  -- into-read-requires-2
+    (λ c. search (slice-is, runs-end)))  -- returns-2

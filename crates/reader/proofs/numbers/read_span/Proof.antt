@@ -1,5 +1,5 @@
 -- `reader::numbers::read_span` meets its contract. Assumes nothing.
-use Rattle.reader.proofs.Values.{number-laws}
+use Rattle.reader.proofs.Leaves.{leaves}
 use borrow.Author.Needs.{needs}
 use Rattle.reader.proofs.numbers.read_span.Statement.{statement}
 use Rattle.reader.proofs.numbers.read_span.Tie as tie
@@ -7,5 +7,12 @@ use Rattle.reader.proofs.numbers.read_span.Tie as tie
 pub read-span-spec : {M : Type 1} → statement M
 read-span-spec =
     tie.close (tie.spec
-    (λ c κs. search needs)  -- read-number-requires
-    (λ c. search number-laws))  -- returns
+    (λ c κs. search needs)  -- bytes-from-requires
+    (λ c. search leaves)  -- returns
+    (λ c. search needs)  -- add-middle
+    (λ c. search needs)  -- add-next
+    (λ c κs. search needs)  -- number-at-requires
+    (λ c. search (leaves, needs))  -- cast-start
+    (λ c κs. search needs)  -- number-at-requires-2
+    (λ c. search (leaves, needs))  -- cast-end
+    (λ c. search leaves))  -- returns-2

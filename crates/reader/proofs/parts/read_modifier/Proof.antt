@@ -1,5 +1,4 @@
 -- `reader::parts::read_modifier` meets its contract. Assumes nothing.
-use Rattle.reader.proofs.Values.{there}
 use Rattle.reader.proofs.Cases.{modifiers}
 use borrow.Author.Needs.{needs}
 use Rattle.reader.proofs.parts.read_modifier.Statement.{statement}
@@ -11,11 +10,12 @@ read-modifier-spec =
     (λ c κs. search needs)  -- read-case-requires
     (λ c. search needs)  -- enum-known-a
     (λ c. search needs)  -- enum-told
+    (λ c κs. search needs)  -- into-read-requires
     (λ c. search modifiers)  -- returns
-    (λ c. search there)  -- shared-slice-read-match2
     (λ c κs. search needs)  -- read-ctrl-requires
     (λ c κs. search needs)  -- read-ctrl-requires-2
     (λ c κs. search needs)  -- read-span-requires
+    (λ c κs. search needs)  -- into-read-requires-2
     (λ c κs. search needs)  -- read-pow-requires
     (λ c. search modifiers)  -- returns-2
     (λ c. search modifiers)  -- returns-3

@@ -5,16 +5,16 @@ use Rattle.tree.specs.Read.{vec, repeat}
 use Rattle.tree.specs.Stmts.{modifier}
 use Rattle.reader.specs.Answers.{forget}
 use mathlib.Core.Path.{_≡_}
-use Rattle.reader.proofs.Values.{vecs, there}
+use Rattle.reader.proofs.Values.{vecs}
 use borrow.Author.Needs.{needs}
 use Rattle.reader.proofs.parts.read_modifiers.Statement.{statement}
 use Rattle.reader.proofs.parts.read_modifiers.Tie as tie
 
 abbrev Inv-loop : tie.InvT-loop
-Inv-loop s kinds at first k₀ i₀ k i = forget (vec (modifier (textsOf s)) s at) ≡ forget (repeat [] _∷_ (modifier (textsOf s)) i s k)
+Inv-loop s kinds at n first k₀ i₀ k i = forget (vec (modifier (textsOf s)) s at) ≡ forget (repeat [] _∷_ (modifier (textsOf s)) i s k)
 
 abbrev μ-loop : tie.MeasureT-loop
-μ-loop s kinds at first k₀ i₀ k i = i
+μ-loop s kinds at n first k₀ i₀ k i = i
 
 pub read-modifiers-spec : {M : Type 1} → statement M
 read-modifiers-spec =
@@ -22,8 +22,8 @@ read-modifiers-spec =
     (λ c κs. search needs)  -- read-count-requires
     (λ c. search needs)  -- enum-known-a
     (λ c. search needs)  -- enum-told
+    (λ c κs. search needs)  -- into-read-requires
     (λ c. search vecs)  -- returns
-    (λ c. search there)  -- shared-slice-read-i
     (λ c. search vecs)  -- loop-holds
     (λ c κs. search needs)  -- read-modifier-requires
     (λ c. search needs)  -- enum-known-b

@@ -1,5 +1,5 @@
 -- `reader::parts::read_operand` meets its contract. Assumes nothing.
-use Rattle.reader.proofs.Runs.{runs-laws}
+use Rattle.reader.proofs.Runs.{runs-stop, runs-end}
 use Rattle.reader.proofs.Fields.{fields}
 use borrow.Author.Needs.{needs}
 use Rattle.reader.proofs.parts.read_operand.Statement.{statement}
@@ -11,14 +11,16 @@ read-operand-spec =
     (λ c κs. search needs)  -- read-name-requires
     (λ c. search needs)  -- enum-known-a
     (λ c. search needs)  -- enum-told
-    (λ c. search (fields, runs-laws))  -- returns
+    (λ c κs. search needs)  -- into-read-requires
+    (λ c. search (fields, runs-stop))  -- returns
     (λ c κs. search needs)  -- read-optional-u64-requires
     (λ c. search needs)  -- enum-known-b
     (λ c. search needs)  -- enum-told-2
-    (λ c. search (fields, runs-laws))  -- returns-2
+    (λ c. search (fields, runs-stop))  -- returns-2
     (λ c κs. search needs)  -- read-optional-slice-requires
     (λ c. search needs)  -- enum-known-c
     (λ c. search needs)  -- enum-told-3
-    (λ c. search (fields, runs-laws))  -- returns-3
+    (λ c. search (fields, runs-stop))  -- returns-3
     (λ c κs. search needs)  -- read-span-requires
-    (λ c. search (fields, runs-laws)))  -- returns-4
+    (λ c κs. search needs)  -- into-read-requires-2
+    (λ c. search (fields, runs-end)))  -- returns-4

@@ -1,6 +1,6 @@
 -- `reader::parts::read_optional_qualifier` meets its contract. Assumes nothing.
 use Rattle.reader.proofs.Fields.{qualifier-is}
-use Rattle.reader.proofs.Values.{options, there}
+use Rattle.reader.proofs.Values.{options}
 use borrow.Author.Needs.{needs}
 use Rattle.reader.proofs.parts.read_optional_qualifier.Statement.{statement}
 use Rattle.reader.proofs.parts.read_optional_qualifier.Tie as tie
@@ -11,8 +11,9 @@ read-optional-qualifier-spec =
     (λ c κs. search needs)  -- read-case-requires
     (λ c. search needs)  -- enum-known-a
     (λ c. search needs)  -- enum-told
+    (λ c κs. search needs)  -- into-read-requires
     (λ c. search (options, qualifier-is))  -- returns
-    (λ c. search there)  -- shared-slice-read-if1
     (λ c. search (options, qualifier-is))  -- returns-2
     (λ c κs. search needs)  -- read-case-requires-2
+    (λ c κs. search needs)  -- into-read-requires-2
     (λ c. search (options, qualifier-is)))  -- returns-3

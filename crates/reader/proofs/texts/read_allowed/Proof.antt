@@ -1,9 +1,9 @@
 -- `reader::texts::read_allowed` meets its contract. Assumes nothing.
-use Rattle.reader.specs.Answers.{forget}
-use Rattle.tree.specs.Texts.{allowed}
-use lib.ListN.{take, drop}
 use Prim.Native.Nat.{_≤_, _-_}
 use mathlib.Core.Path.{_≡_, refl}
+use lib.ListN.{take, drop}
+use Rattle.tree.specs.Texts.{allowed}
+use Rattle.reader.specs.Answers.{forget}
 use Rattle.reader.proofs.Section.{allowing-bytes}
 use borrow.Author.Needs.{needs}
 use Rattle.reader.proofs.texts.read_allowed.Statement.{statement}
@@ -19,9 +19,8 @@ pub read-allowed-spec : {M : Type 1} → statement M
 read-allowed-spec =
     tie.close (tie.spec Inv-loop μ-loop
     (λ c. (search needs, refl))  -- loop-holds
-    (λ c. search needs)  -- shared-slice-read-if1
+    (λ c. search needs)  -- shared-slice-read-b
     (λ c. search allowing-bytes)  -- returns
-    (λ c. search needs)  -- shared-slice-read-if2
     (λ c. search allowing-bytes)  -- returns-2
     (λ c. search needs)  -- add-k
     (λ c. search needs)  -- loop-less

@@ -1,5 +1,4 @@
 -- `reader::texts::read_spelled` meets its contract. Assumes nothing.
-use Rattle.reader.proofs.Values.{there}
 use Rattle.reader.proofs.Named.{text-numbers}
 use borrow.Author.Needs.{needs}
 use Rattle.reader.proofs.texts.read_spelled.Statement.{statement}
@@ -8,12 +7,10 @@ use Rattle.reader.proofs.texts.read_spelled.Tie as tie
 pub read-spelled-spec : {M : Type 1} → statement M
 read-spelled-spec =
     tie.close (tie.spec
-    (λ c κs. search needs)  -- read-u16-requires
+    (λ c κs. search needs)  -- read-path-requires
     (λ c. search needs)  -- enum-known-a
     (λ c. search needs)  -- enum-told
     (λ c. search text-numbers)  -- returns
-    (λ c κs. search there)  -- two-requires
+    (λ c. search text-numbers)  -- shared-slice-read-if1
     (λ c. search text-numbers)  -- returns-2
-    (λ c. search needs)  -- shared-slice-read-if2
-    (λ c. search text-numbers)  -- returns-3
-    (λ c. search text-numbers))  -- returns-4
+    (λ c. search text-numbers))  -- returns-3
