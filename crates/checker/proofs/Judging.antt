@@ -1,0 +1,188 @@
+-- The judgements: of diagnostics, of a program, of a file, of a call. Assumes nothing.
+use Prim.Native.Nat.{ℕ, zero, suc, _+_, _≤_, _<_, min}
+use mathlib.Core.Path.{_≡_, refl, sym, ap, _∙_}
+use mathlib.Core.List.{List, [], _∷_, _++_}
+use native.Mathlib.Omega.{arith}
+use native.Mathlib.Decide.{decLe}
+use native.Mathlib.Nat.{zero-add}
+use lib.ListN.{length, drop, replicate, length-append}
+use lib.Seq.{sets, sets-eq}
+use lib.Dec.{ltb}
+use borrow.Author.Tests.{lt-ltb, le-ltb}
+use Rattle.text.specs.Text.{text}
+use Rattle.text.specs.Decimal.{decimal}
+use Rattle.ast.specs.Tree.{Text, Program, noStmt}
+use Rattle.tree.specs.Ans.{Ans, ok, refused, IsOk, nextOf}
+use Rattle.tree.specs.Decode.{textsOf, decode}
+use Rattle.sema.specs.Messages.{Diagnostic, Error, Warning}
+use Rattle.sema.specs.Keys.{keys}
+use Rattle.sema.specs.Stmts.{analyze}
+use Rattle.listing.specs.Listing.{ended, spaced, countOf, firstLine, listingOf}
+use Rattle.answer.specs.Answer.{Answer, accepted, refusal, unlessRefused, judgeListing, judgeDiagnostics, judgeProgram, judgeFile, answer, listingFile, listingAfter, scratchAfter}
+use Rattle.reader.specs.Answers.{validated}
+use Rattle.reader.specs.declared.Validated.{Validated}
+use Rattle.context.specs.declared.Sink.{Sink}
+use Rattle.context.specs.View.{keysIn}
+use Rattle.lines.specs.EmitLaws.{allBytes, listing-parts, listing-stored}
+use Rattle.sheet.specs.Sheet.{KeysAdded}
+use Rattle.tables.specs.Tables.{cleared}
+use Rattle.claims.specs.Claim.{Claim}
+use Rattle.claims.proofs.Demand3.{demand-3}
+use Rattle.accepted.specs.Parts.{valueOr}
+use Rattle.checker.specs.declared.Answer.{Answer as AnswerValue}
+use Rattle.checker.specs.Program.{programOf}
+use Rattle.checker.specs.Check.{answerOf, SameRest, listingFor, Judged, JudgedFile, Ran, Learnt}
+use Rattle.checker.proofs.Runs.{written}
+
+-- the judgement by its tests
+module _ (room : ℕ) (p : Program) (ds : List Diagnostic) where
+  diagnostics-many : 256 < length ds → judgeDiagnostics room p ds ≡ refusal 8 0
+  unfolding judgeDiagnostics
+  diagnostics-many h = rw (lt-ltb 256 (length ds) h, judgeDiagnostics)
+
+  diagnostics-few : length ds ≤ 256 → judgeDiagnostics room p ds ≡ judgeListing room ds (length (listingOf (p .texts) ds))
+  unfolding judgeDiagnostics
+  diagnostics-few h = rw (le-ltb 256 (length ds) h, judgeDiagnostics)
+
+  listing-long : (size : ℕ) → room < size → judgeListing room ds size ≡ refusal 9 0
+  unfolding judgeListing unlessRefused
+  listing-long size h = rw (lt-ltb room size h)
+
+  listing-fits : (size : ℕ) → size ≤ room → judgeListing room ds size ≡ accepted (countOf Error ds) (countOf Warning ds) size
+  unfolding judgeListing unlessRefused
+  listing-fits size h = rw (le-ltb room size h)
+
+module _ (p : Program) (sink : Sink) (l : Learnt p sink) where
+  pub few-of : sink .errors + sink .warnings ≤ 256 → length (analyze p) ≤ 256
+  few-of h = elim (decLe (length (analyze p)) 256) [ yes g ↦ g | no g ↦ (let o = l .over (omega arith) in absurd (omega arith)) ]
+
+  many-of : 256 < sink .errors + sink .warnings → 256 < length (analyze p)
+  many-of h = elim (decLe (length (analyze p)) 256) [ yes g ↦ (let o = l .few g in absurd (omega arith)) | no g ↦ omega arith ]
+
+  pub judged-many : 256 < sink .errors + sink .warnings → (room : ℕ) → judgeDiagnostics room p (analyze p) ≡ refusal 8 0
+  judged-many h room = diagnostics-many room p (analyze p) (many-of h)
+
+  module _ (h : sink .errors + sink .warnings ≤ 256) (head : ℕ) (e : head ≡ length (ended (spaced (text "list") (decimal (sink .errors) ∷ decimal (sink .warnings) ∷ []) ∷ []))) where
+    size-is : head + sink .n ≡ length (listingOf (p .texts) (analyze p))
+    unfolding firstLine
+    size-is =
+        let f = few-of h in
+        let a : head ≡ length (ended (firstLine (analyze p) ∷ [])) = rw (← l .errors f, ← l .warnings f) e in
+        let b = l .bytes f in
+        rw (listing-parts (p .texts) (analyze p)) (omega (arith, length-append (ended (firstLine (analyze p) ∷ [])) (allBytes (p .texts) (analyze p))))
+
+    module _ (room : ℕ) where
+      pub judged-long : room < head + sink .n → judgeDiagnostics room p (analyze p) ≡ refusal 9 0
+      judged-long g = diagnostics-few room p (analyze p) (few-of h) ∙ listing-long room p (analyze p) _ (rw size-is at g)
+
+      pub judged-fine : head + sink .n ≤ room → judgeDiagnostics room p (analyze p) ≡ accepted (sink .errors) (sink .warnings) (head + sink .n)
+      judged-fine g =
+          diagnostics-few room p (analyze p) (few-of h) ∙ listing-fits room p (analyze p) _ (rw size-is at g)
+          ∙ rw (← size-is, ← l .errors (few-of h), ← l .warnings (few-of h))
+
+    pub listed-fine : (buffer : List ℕ) → head + sink .n ≤ length buffer → sets buffer 0 (listingOf (p .texts) (analyze p)) ≡ listingOf (p .texts) (analyze p) ++ drop (head + sink .n) buffer
+    listed-fine buffer g = sets-eq (listingOf (p .texts) (analyze p)) buffer 0 (omega (arith, size-is)) ∙ rw (size-is, zero-add (length (listingOf (p .texts) (analyze p))))
+
+-- what the second walk leaves
+pub listing-written : (p : Program) (sink : Sink) → Learnt p sink → sink .errors + sink .warnings ≤ 256 → (t : List Text) → p .texts ≡ t → (l : List ℕ) → {s : List ℕ} {n : ℕ} {o : List ℕ} {r : Sink} {s′ o′ : List ℕ}
+    → o ≡ sets l 0 (ended (spaced (text "list") (decimal (sink .errors) ∷ decimal (sink .warnings) ∷ []) ∷ [])) → n ≡ 0 + length (ended (spaced (text "list") (decimal (sink .errors) ∷ decimal (sink .warnings) ∷ []) ∷ []))
+    → Ran p n s o r s′ o′ → o′ ≡ sets l 0 (listingOf t (analyze p))
+unfolding firstLine
+listing-written p sink k h t e l {s = s} {n = n} {o = o} {r = r} {s′ = s′} {o′ = o′} a b w =
+    let f = few-of p sink k h in
+    rw (← e)
+    (written p n s o r s′ o′ w f
+    ∙ rw (a, b, k .errors f, k .warnings f, zero-add (length (ended (firstLine (analyze p) ∷ [])))) (listing-stored (p .texts) (analyze p) l))
+
+-- the ways out of `list`
+module _ (tree : List ℕ) (t : programOf tree .texts ≡ textsOf tree) {s l s′ : List ℕ} (sink : Sink) (k : Learnt (programOf tree) sink) (same : SameRest s s′) where
+  pub list-many : 256 < sink .errors + sink .warnings → Judged (programOf tree) (judgeDiagnostics (length l) (programOf tree) (analyze (programOf tree))) s l (AnswerValue.Refused 8 0) s′ l
+  list-many h = rw (judged-many (programOf tree) sink k h (length l)) (record { answers = refl; listed = refl; scratch = same })
+
+  module _ (h : sink .errors + sink .warnings ≤ 256) (head : ℕ) (e : head ≡ length (ended (spaced (text "list") (decimal (sink .errors) ∷ decimal (sink .warnings) ∷ []) ∷ []))) where
+    pub list-long : length l < head + sink .n → Judged (programOf tree) (judgeDiagnostics (length l) (programOf tree) (analyze (programOf tree))) s l (AnswerValue.Refused 9 0) s′ l
+    list-long g = rw (judged-long (programOf tree) sink k h head e (length l) g) (record { answers = refl; listed = refl; scratch = same })
+
+    pub list-fine : head + sink .n ≤ length l → {s″ l″ : List ℕ} → l″ ≡ sets l 0 (listingOf (textsOf tree) (analyze (programOf tree))) → SameRest s′ s″
+        → Judged (programOf tree) (judgeDiagnostics (length l) (programOf tree) (analyze (programOf tree))) s l (AnswerValue.Accepted (sink .errors) (sink .warnings) (head + sink .n)) s″ l″
+    list-fine g w q =
+        rw (judged-fine (programOf tree) sink k h head e (length l) g)
+        (record {
+          answers = refl;
+          listed = w ∙ rw (← t) (listed-fine (programOf tree) sink k h head e l g);
+          scratch = record { same-length = q .same-length ∙ same .same-length; same-rest = q .same-rest ∙ same .same-rest };
+        })
+
+-- of a program: its keys first
+module _ (room : ℕ) (p : Program) (index index′ : List ℕ) (count : ℕ) (k : KeysAdded index index′ count (keys p)) where
+  pub keys-many : 256 < count → judgeProgram room p ≡ refusal 7 0
+  unfolding judgeProgram
+  keys-many h = rw (lt-ltb 256 (length (keys p)) (omega (arith, k .counted)), judgeProgram)
+
+  pub keys-fit : count ≤ 256 → judgeProgram room p ≡ judgeDiagnostics room p (analyze p)
+  unfolding judgeProgram
+  keys-fit h = rw (le-ltb 256 (length (keys p)) (omega (arith, k .counted)), judgeProgram)
+
+-- of a file
+no-variant : {C : Type 0} {n q : ℕ} → Validated.Refused n q ≡ Validated.Accepted → C
+no-variant e = let z : _≡_ {A = ℕ} 0 1 = cc in absurd (omega arith)
+
+pub file-refused : (x : Ans Program) (n q : ℕ) → Validated.Refused n q ≡ validated x → x ≡ refused n q
+unfolding validated
+file-refused (ok p next) n q e = no-variant e
+file-refused (refused m r) n q e = let a : n ≡ m = cc in let b : q ≡ r = cc in rw (a, b)
+
+pub file-accepted : (x : Ans Program) → Validated.Accepted ≡ validated x → IsOk x
+unfolding validated IsOk
+file-accepted (ok p next) e = tt
+file-accepted (refused m r) e = no-variant (sym e)
+
+pub judged-refused : (tree s l : List ℕ) (n q : ℕ) → decode tree ≡ refused n q → JudgedFile tree s l (AnswerValue.Refused n q) s l
+unfolding judgeFile listingAfter
+judged-refused tree s l n q e = record { answers = rw e; listed = rw e; scratch = record { same-length = refl; same-rest = refl } }
+
+program-of : (x : Ans Program) (d : Program) (room : ℕ) → IsOk x → judgeFile room x ≡ judgeProgram room (valueOr d x)
+unfolding judgeFile IsOk valueOr
+program-of (ok p next) d room h = refl
+program-of (refused n q) d room h = absurd h
+
+listing-of : (x : Ans Program) (d : Program) → IsOk x → listingFile x ≡ listingOf (valueOr d x .texts) (analyze (valueOr d x))
+unfolding listingFile IsOk valueOr
+listing-of (ok p next) d h = refl
+listing-of (refused n q) d h = absurd h
+
+after-is : (tree l : List ℕ) (a : Answer) → IsOk (decode tree) → listingFor (programOf tree) l a ≡ listingAfter tree l a
+unfolding listingAfter programOf
+after-is tree l (refusal n q) h = refl
+after-is tree l (accepted e w size) h = rw (listing-of (decode tree) (record { texts = []; statements = noStmt }) h)
+
+pub judged-program : (tree s l : List ℕ) (r : AnswerValue) (s′ l′ : List ℕ) → IsOk (decode tree) → Judged (programOf tree) (judgeProgram (length l) (programOf tree)) s l r s′ l′ → JudgedFile tree s l r s′ l′
+unfolding programOf
+judged-program tree s l r s′ l′ h j =
+    let e : judgeFile (length l) (decode tree) ≡ judgeProgram (length l) (programOf tree) = program-of (decode tree) (record { texts = []; statements = noStmt }) (length l) h in
+    record { answers = j .answers ∙ sym e; listed = j .listed ∙ after-is tree l (judgeProgram (length l) (programOf tree)) h ∙ ap (listingAfter tree l) (sym e); scratch = j .scratch }
+
+-- demand 3 of what a call leaves
+pub call-billed : (tree l : List ℕ) (scratch : ℕ) (a : Answer) (l′ : List ℕ) → a ≡ answer tree scratch (length l) → l′ ≡ listingAfter tree l (answer tree scratch (length l))
+    → (errors warnings size : ℕ) → a ≡ accepted errors warnings size → Claim tree l′ size
+call-billed tree l scratch a l′ d e errors warnings size h = rw e (demand-3 tree l scratch errors warnings size (sym d ∙ h))
+
+-- of a call
+module _ (tree s l : List ℕ) where
+  answer-short : length s < 65536 → answer tree (length s) (length l) ≡ refusal 1 0
+  unfolding answer
+  answer-short h = rw (lt-ltb (length s) 65536 h, answer)
+
+  answer-long : 65536 ≤ length s → answer tree (length s) (length l) ≡ judgeFile (length l) (decode tree)
+  unfolding answer
+  answer-long h = rw (le-ltb (length s) 65536 h, answer)
+
+  pub call-short : length s < 65536 → (answerOf (AnswerValue.Refused 1 0) ≡ answer tree (length s) (length l)) × (l ≡ listingAfter tree l (answer tree (length s) (length l))) × (s ≡ scratchAfter s)
+  unfolding listingAfter scratchAfter
+  call-short h = (sym (answer-short h), rw (answer-short h), rw (lt-ltb (length s) 65536 h, scratchAfter))
+
+  pub call-judged : 65536 ≤ length s → (r : AnswerValue) (s′ l′ s″ : List ℕ) → JudgedFile tree s l r s′ l′ → s″ ≡ cleared s′
+      → (answerOf r ≡ answer tree (length s) (length l)) × (l′ ≡ listingAfter tree l (answer tree (length s) (length l))) × (s″ ≡ scratchAfter s)
+  unfolding scratchAfter cleared
+  call-judged h r s′ l′ s″ j e =
+      (j .answers ∙ sym (answer-long h), j .listed ∙ ap (listingAfter tree l) (sym (answer-long h)), e ∙ ap (λ (x : List ℕ). replicate 65536 0 ++ x) (j .scratch .same-rest) ∙ sym (rw (le-ltb (length s) 65536 h, scratchAfter)))

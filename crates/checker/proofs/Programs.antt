@@ -1,0 +1,80 @@
+-- The program of an accepted file, its keys, and the context that its walk begins with. Assumes nothing.
+use Prim.Native.Nat.{ℕ, zero, suc, _≤_}
+use mathlib.Core.Path.{_≡_, refl, sym, ap, subst, _∙_}
+use mathlib.Core.Bool.{Bool, true, false}
+use lib.Dec.{T}
+use mathlib.Core.List.{List, [], _∷_, _++_}
+use native.Mathlib.Omega.{arith}
+use lib.ListN.{length, drop, replicate}
+use Rattle.ast.specs.Tree.{Text, Program, Stmts, noStmt}
+use Rattle.tree.specs.Ans.{ok, IsOk, nextOf}
+use Rattle.tree.specs.Texts.{texts}
+use Rattle.tree.specs.Stmts.{body, stmt}
+use Rattle.tree.specs.Decode.{textsOf, decode}
+use Rattle.sema.specs.Limits.{keyLimit}
+use Rattle.sema.specs.Symbols.{empty}
+use Rattle.sema.specs.Marks.{Key, noMarks}
+use Rattle.sema.specs.Keys.{hasKey, keys}
+use Rattle.sema.specs.KeyCount.{Sets, keys-all}
+use Rattle.sema.specs.LawsKeys.{has-key-iff}
+use Rattle.sema.specs.Stmts.{SemaContext, new}
+use Rattle.context.specs.declared.Sink.{Sink}
+use Rattle.context.specs.declared.State.{State}
+use Rattle.context.specs.Sink.{SinkFits}
+use Rattle.context.specs.View.{Placed, keysIn, scopesOf, gatesOf, functionsOf, marksOf, contextOf}
+use Rattle.tables.specs.Tables.{tablesEnd, FewParams, cleared}
+use Rattle.tables.specs.Laws.{cleared-scopes, cleared-gates, cleared-functions, few-empty}
+use Rattle.accepted.specs.Parts.{valueOr, value-is}
+use Rattle.accepted.specs.Files.{file-is, file-body}
+use Rattle.promises.specs.Walks.{Ready, BodyKeyed}
+use Rattle.checker.specs.Program.{programOf}
+use Rattle.checker.specs.Check.{sinkAt}
+
+module _ (tree : List ℕ) (h : IsOk (decode tree)) (at : ℕ) (e : at ≡ nextOf (texts tree 0)) where
+  pub program-is : programOf tree ≡ record { texts = textsOf tree; statements = valueOr noStmt (body (stmt (textsOf tree) 8) tree at) }
+  unfolding programOf
+  program-is = value-is (file-is tree h at e) _
+
+  pub program-texts : programOf tree .texts ≡ textsOf tree
+  program-texts = ap (λ (p : Program). p .texts) program-is
+
+  pub program-body : IsOk (body (stmt (textsOf tree) 8) tree at)
+  program-body = file-body tree h at e
+
+  -- every key that the program's measure statements set is in its table
+  true-of : (b : Bool) → T b → b ≡ true
+  true-of true x = refl
+  true-of false x = absurd x
+
+  pub program-keyed : (ks : List Key) → ks ≡ keys (programOf tree) → length ks ≤ keyLimit → (s : List ℕ) → BodyKeyed ks (scopesOf (cleared s) 1) (body (stmt (textsOf tree) 8) tree at)
+  program-keyed ks f l s =
+      rw (cleared-scopes s)
+      (record {
+        each = λ b n g k set.
+            true-of (hasKey ks k)
+            (has-key-iff ks k .1
+            (rw f
+            (keys-all (programOf tree) (rw f at l) k
+            (rw program-is (subst (λ (x : Stmts). Sets x (empty ∷ []) k) (sym (value-is g noStmt)) set)))))
+      })
+
+-- a cleared scratch and a blank sheet are the context that an analysis begins with
+pub new-context : (tree : List ℕ) (ks : List Key) (s m : List ℕ) → marksOf tree ks m ≡ noMarks → contextOf tree ks (cleared s) 1 m ≡ new
+new-context tree ks s m e = λ i. record { symbols = cleared-scopes s i; gates = cleared-gates s i; functions = cleared-functions s i; measured = e i }
+
+long : (n : ℕ) (xs : List ℕ) → n ≤ length (replicate n 0 ++ xs)
+long zero xs = omega arith
+long (suc n) xs = let h : n ≤ length (replicate n 0 ++ xs) = long n xs in omega arith
+
+pub cleared-length : (s : List ℕ) → 65536 ≤ length (cleared s)
+unfolding cleared
+cleared-length s = long 65536 (drop 65536 s)
+
+pub ready-new : (tree s : List ℕ) (st : State) → Placed tree (st .marks) → st .sink .errors ≡ 0 → st .sink .warnings ≡ 0 → st .sink .n ≤ 1024 → Ready tree (cleared s) st
+ready-new tree s st p e w n =
+    record {
+      room = cleared-length s;
+      few = rw (cleared-functions s) few-empty;
+      placed = p;
+      fits = record { few = omega arith; short = omega arith };
+    }

@@ -1,0 +1,95 @@
+-- One run of the walk over a whole program, and what it tells. Assumes nothing.
+use Prim.Native.Nat.{ℕ, suc, _+_, _-_, _*_, _≤_, _<_, _/_, _%_, min, zero}
+use mathlib.Core.Path.{_≡_, refl, sym, ap, _∙_}
+use mathlib.Core.List.{List, [], _∷_, _++_, append-nil}
+use native.Mathlib.Omega.{arith}
+use lib.ListN.{length, drop, take, replicate, length-replicate, length-append}
+use lib.Seq.{drop-drop, sets}
+use Rattle.text.specs.Text.{text}
+use Rattle.text.specs.Decimal.{front, decimal}
+use Rattle.ast.specs.Tree.{Text, Program, noStmt}
+use Rattle.tree.specs.Ans.{IsOk, nextOf}
+use Rattle.tree.specs.Texts.{texts}
+use Rattle.tree.specs.Stmts.{body, stmt}
+use Rattle.tree.specs.Decode.{textsOf, decode}
+use Rattle.sema.specs.Marks.{Key, noMarks}
+use Rattle.sema.specs.Messages.{Diagnostic, Error, Warning}
+use Rattle.sema.specs.Stmts.{analyze, analyzeStmts, new}
+use Rattle.listing.specs.Listing.{ended, spaced, countOf}
+use Rattle.context.specs.declared.Sink.{Sink}
+use Rattle.context.specs.declared.State.{State}
+use Rattle.context.specs.Sink.{Written, writtenOf, emit}
+use Rattle.context.specs.View.{keysIn, marksOf, contextOf}
+use Rattle.lines.specs.EmitLaws.{allBytes, emit-from, emit-over, emit-few}
+use Rattle.tables.specs.Tables.{tablesEnd, cleared}
+use Rattle.accepted.specs.Parts.{valueOr, given-ok}
+use Rattle.promises.specs.Emitted.{Emitted, emitted-as}
+use Rattle.promises.specs.Walks.{BodyWalked, walkBody}
+use Rattle.checker.specs.Program.{programOf}
+use Rattle.checker.specs.Check.{SameRest, Ran, Learnt, sinkAt}
+use Rattle.checker.proofs.Programs.{program-is, program-body, new-context}
+
+drop-zeros : (n : ℕ) (xs : List ℕ) → drop n (replicate n 0 ++ xs) ≡ xs
+drop-zeros zero xs = refl
+drop-zeros (suc n) xs = drop-zeros n xs
+
+pub drop-cleared : (s : List ℕ) → drop 65536 (cleared s) ≡ drop 65536 s
+unfolding cleared
+drop-cleared s = drop-zeros 65536 (drop 65536 s)
+
+-- what lies past the bytes of a call, by what lies past the tables
+pub rest-past : (s s′ : List ℕ) → drop tablesEnd s′ ≡ drop tablesEnd s → drop 65536 s′ ≡ drop 65536 s
+rest-past s s′ e = sym (drop-drop 14336 tablesEnd s′) ∙ ap (drop 14336) e ∙ drop-drop 14336 tablesEnd s
+
+pub ran : (tree index s o : List ℕ) (keys at n : ℕ) (st r : State) (s′ o′ : List ℕ) → IsOk (decode tree) → at ≡ nextOf (texts tree 0) → st .at ≡ at → st .sink ≡ sinkAt n → ((ks : List Key) → marksOf tree ks (st .marks) ≡ noMarks)
+    → length (cleared s) ≡ length s → BodyWalked tree index keys 8 st (cleared s) o r s′ o′ → Ran (programOf tree) n s o (r .sink) s′ o′
+unfolding analyze
+ran tree index s o keys at n st r s′ o′ h e a b m l w =
+    let t = textsOf tree in
+    let ks = keysIn index keys in
+    let x = body (stmt t 8) tree at in
+    let c : contextOf tree ks (cleared s) 1 (st .marks) ≡ new = new-context tree ks s (st .marks) (m ks) in
+    let g : walkBody t x (contextOf tree ks (cleared s) 1 (st .marks)) .1 ≡ analyzeStmts t (valueOr noStmt x) new .1 =
+    ap (λ f. f (contextOf tree ks (cleared s) 1 (st .marks)) .1) (given-ok noStmt _ (analyzeStmts t) x (program-body tree h at e)) ∙ ap (λ f. analyzeStmts t (valueOr noStmt x) f .1) c in
+    record {
+      emitted = rw (program-is tree h at e) (emitted-as (rw (a, b) at (w .emitted)) g);
+      scratch = record { same-length = w .same-length ∙ l; same-rest = rest-past (cleared s) s′ (w .same-rest) ∙ drop-cleared s };
+    }
+
+-- what the first run tells of the diagnostics
+pub learnt : (p : Program) (s o : List ℕ) (r : Sink) (s′ o′ : List ℕ) → Ran p 0 s o r s′ o′ → Learnt p r
+learnt p s o r s′ o′ w =
+    let t = p .texts in
+    let ds = analyze p in
+    let e : writtenOf r o′ ≡ emit t ds (writtenOf (sinkAt 0) o) = w .emitted .says in
+    record {
+      over = λ h. let g = emit-over t ds o 0 h in rw (← e) at g;
+      few = λ h. let g = emit-few t ds o 0 h in rw (← e) at g;
+      errors = λ h. ap (λ (x : Written). x .errors) (e ∙ emit-from t ds o 0 (omega arith));
+      warnings = λ h. ap (λ (x : Written). x .warnings) (e ∙ emit-from t ds o 0 (omega arith));
+      bytes = λ h. ap (λ (x : Written). x .n) (e ∙ emit-from t ds o 0 (omega arith)) ∙ omega arith;
+      fits = w .emitted .fits;
+    }
+
+-- what the second run writes behind the first line
+pub written : (p : Program) (n : ℕ) (s o : List ℕ) (r : Sink) (s′ o′ : List ℕ) → Ran p n s o r s′ o′ → length (analyze p) ≤ 256 → o′ ≡ sets o n (allBytes (p .texts) (analyze p))
+written p n s o r s′ o′ w h = ap (λ (x : Written). x .out) (w .emitted .says ∙ emit-from (p .texts) (analyze p) o n (omega arith))
+
+-- a count below 257 has few digits
+front-short : (bound n : ℕ) → length (front bound n) ≤ n
+unfolding front
+front-short zero n = omega arith
+front-short (suc bound) zero = omega arith
+front-short (suc bound) (suc n) = omega (arith, front-short bound (suc n / 10), length-append (front bound (suc n / 10)) ((48 + suc n % 10) ∷ []))
+
+decimal-short : (n : ℕ) → length (decimal n) ≤ suc n
+unfolding decimal
+decimal-short n = omega (arith, front-short (n / 10) (n / 10), length-append (front (n / 10) (n / 10)) ((48 + n % 10) ∷ []))
+
+pub head-short : (e w : ℕ) → e ≤ 256 → w ≤ 256 → length (ended (spaced (text "list") (decimal e ∷ decimal w ∷ []) ∷ [])) ≤ 1024
+unfolding ended spaced
+head-short e w a b =
+    omega (arith, length-append (decimal e ++ (32 ∷ decimal w)) (10 ∷ []), length-append (decimal e) (32 ∷ decimal w), decimal-short e, decimal-short w)
+
+pub head-within : (e w n : ℕ) → n ≡ 0 + length (ended (spaced (text "list") (decimal e ∷ decimal w ∷ []) ∷ [])) → e + w ≤ 256 → n ≤ 1024
+head-within e w n h b = omega (arith, h, head-short e w (omega arith) (omega arith))
