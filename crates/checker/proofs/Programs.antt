@@ -55,7 +55,7 @@ module _ (tree : List ℕ) (h : IsOk (decode tree)) (at : ℕ) (e : at ≡ nextO
             (has-key-iff ks k .1
             (rw f
             (keys-all (programOf tree) (rw f at l) k
-            (rw program-is (subst (λ (x : Stmts). Sets x (empty ∷ []) k) (sym (value-is g noStmt)) set)))))
+            (rw program-is (subst (λ (x : Stmts). Sets x (empty ∷ []) k) (sym (value-is g noStmt)) set)))));
       })
 
 -- a cleared scratch and a blank sheet are the context that an analysis begins with

@@ -29,7 +29,15 @@ pub enum Answer {
 }
 
 // One walk over the whole tree, behind n bytes of the listing.
-fn run(tree: &[u8], index: &[u64], scratch: &mut [u8], out: &mut [u8], keys: usize, at: usize, n: usize) -> Sink
+fn run(
+    tree: &[u8],
+    index: &[u64],
+    scratch: &mut [u8],
+    out: &mut [u8],
+    keys: usize,
+    at: usize,
+    n: usize,
+) -> Sink
     requires { ⌜ Walkable (now tree) (now index) keys × (65536 ≤ length (now scratch)) × IsOk (decode (now tree)) × (at ≡ nextOf (texts (now tree) 0)) × (n ≤ 1024) × (keysIn (now index) keys ≡ keysOf (programOf (now tree))) ⌝ }
     ensures { λ r. ⌜ Ran (programOf (now (tree .entry))) n (now (scratch .entry)) (now (out .entry)) r (now (scratch .exit)) (now (out .exit)) ⌝ }
 {
@@ -47,11 +55,7 @@ fn run(tree: &[u8], index: &[u64], scratch: &mut [u8], out: &mut [u8], keys: usi
         out,
         keys,
         8,
-        State {
-            at,
-            sink,
-            marks,
-        },
+        State { at, sink, marks },
     );
     r.sink
 }
@@ -75,7 +79,15 @@ fn head_size(errors: usize, warnings: usize) -> usize
 }
 
 // The second walk writes: the counts of the first are known, and the buffer has room.
-fn write(tree: &[u8], index: &[u64], scratch: &mut [u8], listing: &mut [u8], keys: usize, at: usize, sink: Sink)
+fn write(
+    tree: &[u8],
+    index: &[u64],
+    scratch: &mut [u8],
+    listing: &mut [u8],
+    keys: usize,
+    at: usize,
+    sink: Sink,
+)
     requires { ⌜ Walkable (now tree) (now index) keys × (65536 ≤ length (now scratch)) × IsOk (decode (now tree)) × (at ≡ nextOf (texts (now tree) 0)) × (keysIn (now index) keys ≡ keysOf (programOf (now tree))) ⌝ }
     requires { ⌜ Learnt (programOf (now tree)) sink × (sink .errors + sink .warnings ≤ 256) ⌝ }
     ensures { λ _. ⌜ (now (listing .exit) ≡ sets (now (listing .entry)) 0 (listingOf (textsOf (now (tree .entry))) (analyze (programOf (now (tree .entry)))))) × SameRest (now (scratch .entry)) (now (scratch .exit)) ⌝ }
@@ -85,7 +97,14 @@ fn write(tree: &[u8], index: &[u64], scratch: &mut [u8], listing: &mut [u8], key
 }
 
 // The first walk learns the counts and the length, the second writes.
-fn list(tree: &[u8], index: &[u64], scratch: &mut [u8], listing: &mut [u8], keys: usize, at: usize) -> Answer
+fn list(
+    tree: &[u8],
+    index: &[u64],
+    scratch: &mut [u8],
+    listing: &mut [u8],
+    keys: usize,
+    at: usize,
+) -> Answer
     requires { ⌜ Walkable (now tree) (now index) keys × (65536 ≤ length (now scratch)) × IsOk (decode (now tree)) × (at ≡ nextOf (texts (now tree) 0)) × (keysIn (now index) keys ≡ keysOf (programOf (now tree))) ⌝ }
     ensures { λ r. ⌜ Judged (programOf (now (tree .entry))) (judgeDiagnostics (length (now (listing .entry))) (programOf (now (tree .entry))) (analyze (programOf (now (tree .entry))))) (now (scratch .entry)) (now (listing .entry)) r (now (scratch .exit)) (now (listing .exit)) ⌝ }
 {
@@ -139,6 +158,6 @@ pub fn check(tree: &[u8], scratch: &mut [u8], listing: &mut [u8]) -> Answer
         return Answer::Refused(1, 0);
     }
     let a = check_file(tree, scratch, listing);
-    tables::clear(scratch);
+    tables::clear(scratch); // whatever the answer
     a
 }
