@@ -4,10 +4,10 @@
 use crate::maker::Maker;
 use crate::tree::*;
 
-const BIN_OPS: [BinOp; 5] = [BinOp::Add, BinOp::Sub, BinOp::Mul, BinOp::Div, BinOp::Pow];
-const COMPARE_OPS: [CompareOp; 6] =
+pub const BIN_OPS: [BinOp; 5] = [BinOp::Add, BinOp::Sub, BinOp::Mul, BinOp::Div, BinOp::Pow];
+pub const COMPARE_OPS: [CompareOp; 6] =
     [CompareOp::Eq, CompareOp::Ne, CompareOp::Lt, CompareOp::Le, CompareOp::Gt, CompareOp::Ge];
-const CONSTANTS: [ConstKind; 3] = [ConstKind::Pi, ConstKind::Tau, ConstKind::Euler];
+pub const CONSTANTS: [ConstKind; 3] = [ConstKind::Pi, ConstKind::Tau, ConstKind::Euler];
 pub const EXPRESSION_LEVELS: usize = 32;
 
 impl Maker {

@@ -1,5 +1,6 @@
 //! The cases of a run: random trees, trees at the limits, damaged files.
 
+use crate::decode;
 use crate::draws::Draws;
 use crate::edges::EDGES;
 use crate::known::KNOWN;
@@ -21,12 +22,19 @@ pub fn bytes(tree: &Tree) -> Vec<u8> {
     Writer::tree(tree).bytes
 }
 
+/// So many cases have their full share of trees at a limit, which are large.
+const DENSE: u64 = 3_000;
+
 /// The case of a number: of every twelve two are at a limit, two are known, one
-/// is damaged, the others are random. An edge's number is 0, 1 and 2 in turn.
+/// is damaged, the others are random; past the dense ones fewer are at a limit
+/// or known. An edge's number is 0, 1 and 2 in turn.
 pub fn case(seed: u64, number: u64) -> Case {
     let mut maker = Maker::new(Draws::new(seed, number));
-    let round = (number / 6) as usize;
-    match number % 6 {
+    let (round, kind) = match number.checked_sub(DENSE) {
+        None => ((number / 6) as usize, number % 6),
+        Some(more) => ((more / 192) as usize, sparse(more % 192)),
+    };
+    match kind {
         3 => {
             let (kind, make) = EDGES[round % EDGES.len()];
             let more = (round / EDGES.len() + round % EDGES.len()) % 3;
@@ -40,6 +48,15 @@ pub fn case(seed: u64, number: u64) -> Case {
         }
         5 if round % 2 == 1 => damaged(maker),
         _ => random(maker),
+    }
+}
+
+/// Of 192 cases six are as among the dense ones, and a third may be damaged.
+fn sparse(place: u64) -> u64 {
+    match place {
+        0..=5 => place,
+        _ if place % 3 == 2 => 5,
+        _ => 0,
     }
 }
 
@@ -77,21 +94,23 @@ fn random(mut maker: Maker) -> Case {
     case
 }
 
-/// A file that the reader refuses; what was damaged is drawn until it does.
+/// A file with one place changed. Where the reader still accepts it, the tree
+/// is read back from it.
 fn damaged(mut maker: Maker) -> Case {
     let mut draws = Draws::new(maker.draws.next(), 0);
     let mut case = random(maker);
     case.kind = "damaged";
-    let good = case.bytes.clone();
-    while reader::read(&case.bytes).is_ok() {
-        case.bytes = good.clone();
-        let place = draws.below(good.len());
-        match draws.below(4) {
-            0 => case.bytes.truncate(place),
-            1 => case.bytes.extend([0, 1, 2].iter().take(1 + place % 3)),
-            2 => case.bytes[place] = draws.of(&[0, 1, 2, 15, 17, 33, 255]),
-            _ => drop(case.bytes.remove(place)),
-        }
+    let place = draws.below(case.bytes.len());
+    match draws.below(5) {
+        0 => case.bytes.truncate(place),
+        1 => case.bytes.extend([0, 1, 2].iter().take(1 + place % 3)),
+        2 => drop(case.bytes.remove(place)),
+        3 => case.bytes.insert(place, draws.of(&[0, 1, 16, 17, 255])),
+        _ => case.bytes[place] = draws.of(&[0, 1, 2, 15, 17, 33, 255]),
+    }
+    if reader::read(&case.bytes).is_ok() {
+        case.kind = "damaged, accepted";
+        case.tree = decode::tree(&case.bytes);
     }
     case
 }

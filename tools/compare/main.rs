@@ -1,4 +1,4 @@
-//! Makes trees for the checker, and what it must print of each by sema.rs.
+//! Makes trees, gives them to the checker and to sema.rs, and compares.
 
 #[path = "../../target/qasm/ast.rs"]
 #[allow(dead_code)]
@@ -20,8 +20,14 @@ mod tree;
 #[allow(dead_code)]
 mod writer;
 
+mod bench;
+mod bench_trees;
+mod brute;
+mod buffers;
+mod checker;
 mod convert;
 mod coverage;
+mod decode;
 mod draws;
 mod edges;
 mod exprs;
@@ -31,6 +37,7 @@ mod keys;
 mod known;
 mod maker;
 mod oracle;
+mod run;
 mod shape;
 mod show;
 mod statements;
@@ -40,16 +47,24 @@ mod wide;
 
 use std::io::Write;
 
-const USAGE: &str = "usage: compare cases | expected | pairs | coverage N SEED, show SEED NUMBER";
+const USAGE: &str = "usage: compare run N SEED [THREADS], every N SEED, show SEED NUMBER, bench SEED,
+       cases | expected N SEED [FILE ..]";
 
 fn main() {
     let words: Vec<String> = std::env::args().skip(1).collect();
     let numbers: Vec<u64> = words.iter().skip(1).filter_map(|word| word.parse().ok()).collect();
+    let files = words.get(3..).unwrap_or(&[]);
     let bytes = match (words.first().map(String::as_str), &numbers[..]) {
-        (Some("cases"), [cases, seed]) => input(*cases, *seed),
-        (Some("expected"), [cases, seed]) => expected(*cases, *seed),
-        (Some("pairs"), [cases, seed]) => pairs(*cases, *seed),
-        (Some("coverage"), [cases, seed]) => std::process::exit(coverage::run(*cases, *seed)),
+        (Some("run"), [cases, seed]) => ended(run::run(*cases, *seed, 1, false)),
+        (Some("run"), [cases, seed, threads]) => ended(run::run(*cases, *seed, *threads, false)),
+        (Some("every"), [cases, seed]) => ended(run::run(*cases, *seed, 1, true)),
+        (Some("bench"), [seed]) => ended(bench::run(*seed)),
+        (Some("cases"), [cases, seed]) => {
+            listed(files, *cases, *seed).iter().flat_map(|case| measured(&case.bytes)).collect()
+        }
+        (Some("expected"), [cases, seed]) => {
+            listed(files, *cases, *seed).iter().flat_map(printed).collect()
+        }
         (Some("show"), [seed, number]) => shown(*seed, *number),
         _ => {
             eprintln!("{USAGE}");
@@ -62,27 +77,27 @@ fn main() {
     }
 }
 
+fn ended(status: i32) -> ! {
+    std::process::exit(status)
+}
+
+/// The trees of the files, then the cases of a seed.
+fn listed(files: &[String], cases: u64, seed: u64) -> Vec<generate::Case> {
+    let of_file = |name: &String| {
+        let bytes = std::fs::read(name).unwrap_or_else(|error| panic!("{name}: {error}"));
+        generate::Case { kind: "file", tree: decode::tree(&bytes), bytes }
+    };
+    let generated = (0..cases).map(|number| generate::case(seed, number));
+    files.iter().map(of_file).chain(generated).collect()
+}
+
 /// The bytes after their length in four bytes, the highest first.
 fn measured(bytes: &[u8]) -> Vec<u8> {
     [&(bytes.len() as u32).to_be_bytes()[..], bytes].concat()
 }
 
-fn input(cases: u64, seed: u64) -> Vec<u8> {
-    (0..cases).flat_map(|number| measured(&generate::case(seed, number).bytes)).collect()
-}
-
-/// Each case, then what is expected of it.
-fn pairs(cases: u64, seed: u64) -> Vec<u8> {
-    let pair = |case: generate::Case| [measured(&case.bytes), measured(&printed(&case))].concat();
-    (0..cases).flat_map(|number| pair(generate::case(seed, number))).collect()
-}
-
-fn expected(cases: u64, seed: u64) -> Vec<u8> {
-    (0..cases).flat_map(|number| printed(&generate::case(seed, number))).collect()
-}
-
 fn printed(case: &generate::Case) -> Vec<u8> {
-    oracle::printed(&oracle::answer(&case.bytes, &case.tree))
+    oracle::printed(&oracle::verdict(&case.bytes, &case.tree))
 }
 
 /// The kind of a case, its program as it was before any damage, its answer.

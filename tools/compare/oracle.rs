@@ -1,4 +1,4 @@
-//! What the checker must print of a tree: the listing by sema.rs, or a refusal
+//! What the checker must answer of a tree: the listing by sema.rs, or a refusal
 //! by document 01.
 
 use crate::reader;
@@ -23,33 +23,35 @@ pub enum Judge {
     Own,
 }
 
-pub enum Answer {
+/// What is said of a tree whatever the buffers are: refusals 2 to 8, or the
+/// diagnostics.
+pub enum Verdict {
     Refused(u8, usize),
     Listed(Vec<Diagnostic>, Judge),
 }
 
-pub fn answer(bytes: &[u8], tree: &Tree) -> Answer {
+pub fn verdict(bytes: &[u8], tree: &Tree) -> Verdict {
     if let Err(refusal) = reader::read(bytes) {
-        return Answer::Refused(refusal.number, refusal.place);
+        return Verdict::Refused(refusal.number, refusal.place);
     }
     if keys::count(tree) > keys::MOST_KEYS {
-        return Answer::Refused(7, 0);
+        return Verdict::Refused(7, 0);
     }
     let (diagnostics, judge) = diagnostics(tree);
     if diagnostics.len() > MOST_DIAGNOSTICS {
-        return Answer::Refused(8, 0);
+        return Verdict::Refused(8, 0);
     }
-    if listing(&diagnostics).len() > MOST_LISTING_BYTES {
-        return Answer::Refused(9, 0);
-    }
-    Answer::Listed(diagnostics, judge)
+    Verdict::Listed(diagnostics, judge)
 }
 
-/// The bytes that the program prints.
-pub fn printed(answer: &Answer) -> Vec<u8> {
-    match answer {
-        Answer::Refused(number, place) => format!("refused {number} {place}\n").into_bytes(),
-        Answer::Listed(diagnostics, _) => listing(diagnostics).into_bytes(),
+/// The bytes that the program prints, whose listing buffer has 65,536 bytes.
+pub fn printed(verdict: &Verdict) -> Vec<u8> {
+    match verdict {
+        Verdict::Refused(number, place) => format!("refused {number} {place}\n").into_bytes(),
+        Verdict::Listed(diagnostics, _) => match listing(diagnostics).into_bytes() {
+            long if long.len() > MOST_LISTING_BYTES => b"refused 9 0\n".to_vec(),
+            listing => listing,
+        },
     }
 }
 
@@ -88,9 +90,13 @@ pub fn diagnostics(tree: &Tree) -> (Vec<Diagnostic>, Judge) {
     if shape::has_long(tree) || own.iter().any(|d| overflows(&d.message)) {
         return (own, Judge::Own);
     }
-    let rust = analyze!(sema, &program);
+    let rust = by_rust(&program);
     assert!(rust == own, "sema.rs and sema_wide.rs differ");
     (rust, Judge::Rust)
+}
+
+pub fn by_rust(program: &ast::Program) -> Vec<Diagnostic> {
+    analyze!(sema, program)
 }
 
 /// A message whose number of qubits is beyond 2^64 - 1.

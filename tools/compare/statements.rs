@@ -3,9 +3,9 @@
 use crate::maker::Maker;
 use crate::tree::*;
 
-const QUALIFIERS: [ClassicalQualifier; 3] =
+pub const QUALIFIERS: [ClassicalQualifier; 3] =
     [ClassicalQualifier::Const, ClassicalQualifier::Input, ClassicalQualifier::Output];
-const ASSIGN_OPS: [AssignOp; 3] = [AssignOp::Assign, AssignOp::AddAssign, AssignOp::SubAssign];
+pub const ASSIGN_OPS: [AssignOp; 3] = [AssignOp::Assign, AssignOp::AddAssign, AssignOp::SubAssign];
 pub const STATEMENT_LEVELS: usize = 8;
 
 /// How often each statement comes, in the order of src/ast.rs.

@@ -2,3 +2,4 @@ pub mod Programs
 pub mod Runs
 pub mod Judging
 pub mod Collecting
+pub mod Staging

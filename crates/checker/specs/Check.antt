@@ -3,6 +3,7 @@ use Prim.Native.Nat.{ℕ, _+_, _≤_, _<_}
 use mathlib.Core.Path.{_≡_}
 use mathlib.Core.List.{List, [], _++_}
 use lib.ListN.{length, drop}
+use lib.Seq.{sets}
 use Rattle.ast.specs.Tree.{Text, Program}
 use Rattle.tree.specs.Decode.{decode}
 use Rattle.sema.specs.Limits.{diagnosticLimit}
@@ -60,3 +61,7 @@ sinkAt n = record { n = n; errors = 0; warnings = 0 }
 pub record Ran (p : Program) (n : ℕ) (s o : List ℕ) (r : Sink) (s′ o′ : List ℕ) : Type 0 where
   pub emitted : Emitted (p .texts) (analyze p) (sinkAt n) o r o′
   pub scratch : SameRest s s′
+
+-- the lines of a program's diagnostics at the beginning of a buffer, each byte where there is room
+pub record Staged (p : Program) (o o′ : List ℕ) : Type 0 where
+  pub lines : length (analyze p) ≤ diagnosticLimit → o′ ≡ sets o 0 (allBytes (p .texts) (analyze p))

@@ -6,7 +6,7 @@ use reader::Validated;
 ghost use mathlib.Core.Path.{_≡_};
 ghost use mathlib.Core.List.{[], _∷_};
 ghost use Prim.Native.Nat.{ℕ, _+_, _≤_, _<_};
-ghost use lib.ListN.{length};
+ghost use lib.ListN.{length, take};
 ghost use Rattle.tree.specs.Ans.{IsOk, nextOf};
 ghost use Rattle.tree.specs.Texts.{texts};
 ghost use Rattle.tree.specs.Decode.{textsOf, decode};
@@ -20,13 +20,16 @@ ghost use Rattle.text.specs.Text.{text};
 ghost use Rattle.text.specs.Decimal.{decimal};
 ghost use Rattle.listing.specs.Listing.{ended, spaced, listingOf};
 ghost use lib.Seq.{sets};
-ghost use Rattle.checker.specs.Check.{answerOf, SameRest, Judged, JudgedFile, Ran, Learnt};
+ghost use Rattle.checker.specs.Check.{answerOf, SameRest, Judged, JudgedFile, Ran, Learnt, Staged};
 ghost use Rattle.checker.specs.Program.{programOf};
 
 pub enum Answer {
     Accepted(usize, usize, usize),
     Refused(u8, usize),
 }
+
+// Lines of so many bytes need one walk.
+const STAGE: usize = 8192;
 
 // One walk over the whole tree, behind n bytes of the listing.
 fn run(
@@ -60,13 +63,19 @@ fn run(
     r.sink
 }
 
-// The first walk: it learns the counts and the length, and writes nothing that is kept.
-fn learn(tree: &[u8], index: &[u64], scratch: &mut [u8], keys: usize, at: usize) -> Sink
+// The first walk: it learns the counts and the length. Its lines are kept in the stage, as far as that has room.
+fn learn(
+    tree: &[u8],
+    index: &[u64],
+    scratch: &mut [u8],
+    stage: &mut [u8],
+    keys: usize,
+    at: usize,
+) -> Sink
     requires { ⌜ Walkable (now tree) (now index) keys × (65536 ≤ length (now scratch)) × IsOk (decode (now tree)) × (at ≡ nextOf (texts (now tree) 0)) × (keysIn (now index) keys ≡ keysOf (programOf (now tree))) ⌝ }
-    ensures { λ r. ⌜ Learnt (programOf (now (tree .entry))) r × SameRest (now (scratch .entry)) (now (scratch .exit)) ⌝ }
+    ensures { λ r. ⌜ Learnt (programOf (now (tree .entry))) r × SameRest (now (scratch .entry)) (now (scratch .exit)) × Staged (programOf (now (tree .entry))) (now (stage .entry)) (now (stage .exit)) ⌝ }
 {
-    let mut none = [0u8; 1];
-    run(tree, index, scratch, &mut none, keys, at, 0)
+    run(tree, index, scratch, stage, keys, at, 0)
 }
 
 // The length of the first line.
@@ -96,7 +105,16 @@ fn write(
     run(tree, index, scratch, listing, keys, at, head);
 }
 
-// The first walk learns the counts and the length, the second writes.
+// The lines that the stage had room for, behind the first line.
+fn write_staged(stage: &[u8], listing: &mut [u8], sink: Sink)
+    requires { ⌜ (sink .n ≤ length (now stage)) × (length (ended (spaced (text "list") (decimal (sink .errors) ∷ decimal (sink .warnings) ∷ []) ∷ [])) + sink .n ≤ length (now listing)) ⌝ }
+    ensures { λ _. ⌜ now (listing .exit) ≡ sets (sets (now (listing .entry)) 0 (ended (spaced (text "list") (decimal (sink .errors) ∷ decimal (sink .warnings) ∷ []) ∷ []))) (length (ended (spaced (text "list") (decimal (sink .errors) ∷ decimal (sink .warnings) ∷ []) ∷ []))) (take (sink .n) (now (stage .entry))) ⌝ }
+{
+    let head = lines::first_line(listing, sink.errors, sink.warnings);
+    bytes::copy(&stage[..sink.n], &mut listing[head..]);
+}
+
+// The first walk learns the counts and the length. A second writes where the stage had too little room.
 fn list(
     tree: &[u8],
     index: &[u64],
@@ -108,7 +126,8 @@ fn list(
     requires { ⌜ Walkable (now tree) (now index) keys × (65536 ≤ length (now scratch)) × IsOk (decode (now tree)) × (at ≡ nextOf (texts (now tree) 0)) × (keysIn (now index) keys ≡ keysOf (programOf (now tree))) ⌝ }
     ensures { λ r. ⌜ Judged (programOf (now (tree .entry))) (judgeDiagnostics (length (now (listing .entry))) (programOf (now (tree .entry))) (analyze (programOf (now (tree .entry))))) (now (scratch .entry)) (now (listing .entry)) r (now (scratch .exit)) (now (listing .exit)) ⌝ }
 {
-    let sink = learn(tree, index, scratch, keys, at);
+    let mut stage = [0u8; STAGE];
+    let sink = learn(tree, index, scratch, &mut stage, keys, at);
     if 256 < sink.errors + sink.warnings {
         return Answer::Refused(8, 0);
     }
@@ -116,7 +135,11 @@ fn list(
     if listing.len() < size {
         return Answer::Refused(9, 0);
     }
-    write(tree, index, scratch, listing, keys, at, sink);
+    if sink.n <= STAGE {
+        write_staged(&stage, listing, sink);
+    } else {
+        write(tree, index, scratch, listing, keys, at, sink);
+    }
     Answer::Accepted(sink.errors, sink.warnings, size)
 }
 

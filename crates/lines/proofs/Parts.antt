@@ -7,7 +7,7 @@ use mathlib.Core.Logic.{⊎-elim}
 use native.Mathlib.Omega.{arith}
 use native.Mathlib.Numerals.{add-one}
 use lib.Seq.{length-sets}
-use lib.ListN.{length, getD, drop, length-take, List·getD-eq-default, drop-of-length-le}
+use lib.ListN.{length, getD, drop, replicate, length-take, getD-replicate, List·getD-eq-default, drop-of-length-le}
 use lib.Dec.{T, eqb, leb, eqb→eq, leb→le}
 use borrow.Author.Tests.{eq-eqb, ne-eqb}
 use Rattle.ast.specs.Tree.{Text}
@@ -56,6 +56,9 @@ row-read kind k h g e = e ∙ any-default (getD plans kind []) k 0 noPart (omega
 
 pub row-none : (kind k : ℕ) → 62 ≤ kind → noPart ≡ getD (rowAt kind) k noPart
 row-none kind k h = rw (row-past kind h)
+
+pub nine-none : (k : ℕ) → k < 9 → getD (replicate 9 noPart) k 0 ≡ noPart
+nine-none k h = getD-replicate 9 k noPart 0 h
 
 part-long : (a size : ℕ) (l : List ℕ) → length (part a (a + size) l) ≤ size
 part-long a size l = omega (arith, length-take (a + size - a) (drop a l))

@@ -8,7 +8,7 @@ use native.Mathlib.Omega.{arith}
 use native.Mathlib.Numerals.{add-one}
 use lib.ListN.{length, getD, take, drop, length-append, List·getD-eq-default}
 use lib.Seq.{drop-append-seam, take-append-seam, getD-take}
-use lib.Dec.{T, leb, leb→le}
+use lib.Dec.{T, eqb, leb, eqb→eq, leb→le}
 use Rattle.text.specs.Text.{concat, part, same}
 use Rattle.text.proofs.Table.{every, at}
 use Rattle.text.proofs.Same.{same-eq}
@@ -86,3 +86,22 @@ unfolding isDigit phrase
 digit-phrase x h =
     sym (getD-take 10 phrases x [] h)
     ∙ same-eq (getD (take 10 phrases) x []) ((48 + x) ∷ []) (true-of (isDigit x (getD (take 10 phrases) x [])) (at isDigit (take 10 phrases) [] all-digits x (omega (arith, ten))))
+
+-- the digits' phrases stand at their own numbers
+isOwn : ℕ → ℕ → Bool
+isOwn i x = eqb x i
+
+all-own : T (every isOwn 0 (take 11 phrasePlaces))
+unfolding isOwn phrasePlaces phrases
+all-own = tt
+
+eleven : length (take 11 phrasePlaces) ≡ 11
+unfolding phrasePlaces phrases
+eleven = refl
+
+own-place : (x : ℕ) → x < 11 → getD phrasePlaces x 0 ≡ x
+unfolding isOwn
+own-place x h = sym (getD-take 11 phrasePlaces x 0 h) ∙ eqb→eq (getD (take 11 phrasePlaces) x 0) x (at isOwn (take 11 phrasePlaces) 0 all-own x (omega (arith, eleven)))
+
+pub digit-part : (w : List ℕ) (x : ℕ) → w ≡ allWords → x < 10 → part x (x + 1) w ≡ (48 + x) ∷ []
+digit-part w x e h = rw (own-place x (omega arith), own-place (x + 1) (omega arith)) at (phrase-part w x e (omega arith)) ∙ digit-phrase x h

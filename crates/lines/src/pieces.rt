@@ -2,7 +2,7 @@
 use super::Plan;
 use super::tables;
 ghost use mathlib.Core.Path.{_≡_};
-ghost use Prim.Native.Nat.{_≤_, _<_, _+_, _/_, _^_};
+ghost use Prim.Native.Nat.{ℕ, _≤_, _<_, _+_, _/_, _^_};
 ghost use mathlib.Core.List.{_∷_, []};
 ghost use lib.ListN.{length, getD, set};
 ghost use Rattle.text.specs.Decimal.{decimal};
@@ -25,7 +25,8 @@ fn phrase_of(wording: &[u8], n: usize) -> &[u8]
     if 112 <= n {
         return &wording[..0];
     }
-    text::part(wording, tables::PHRASE_AT[n], tables::PHRASE_AT[n + 1])
+    let places = tables::PHRASE_AT;
+    text::part(wording, places[n], places[n + 1])
 }
 
 // The text with a number, as a part of the tree.
@@ -77,7 +78,7 @@ fn digit_of(wording: &[u8], n: u64, d: usize) -> &[u8]
     ensures { λ r. ⌜ now r ≡ digit n d ∷ [] ⌝ }
 {
     let x = (shifted(n, d) % 10) as usize;
-    phrase_of(wording, x)
+    text::part(wording, x, x + 1)
 }
 
 // How many digits n has.
@@ -156,15 +157,14 @@ fn write_part<'a>(
     copy(out, n, s)
 }
 
-// The part k of a kind of plan; 255 is none.
-fn part_of(kind: usize, k: usize) -> usize
-    requires { ⌜ k < 9 ⌝ }
-    ensures { λ r. ⌜ r ≡ getD (rowAt kind) k noPart ⌝ }
+// The parts of a kind of plan; 255 is none.
+fn row_of(kind: usize) -> [u8; 9]
+    ensures { λ r. ⌜ ((k : ℕ) → k < 9 → getD r k 0 ≡ getD (rowAt kind) k noPart) ⌝ }
 {
     if kind < 62 {
-        return wide(tables::PLANS[kind][k]);
+        return tables::PLANS[kind];
     }
-    255
+    [255; 9]
 }
 
 // Stores what a plan says, part by part.
@@ -180,10 +180,11 @@ fn write_plan<'a>(
     ensures { λ r. ⌜ Said (now (out .entry)) n (now (out .exit)) r (planText (textsOf (now (tree .entry))) p) (rowRoom (rowAt (p .kind))) ⌝ }
 {
     let kind = p.kind;
+    let row = row_of(kind);
     let mut at = n;
     let mut k = 0;
     while k < 9 {
-        let part = part_of(kind, k);
+        let part = wide(row[k]);
         at = write_part(out, at, tree, index, wording, p, part);
         k += 1;
     }

@@ -1,19 +1,20 @@
 -- Keys added to the index. Assumes nothing.
-use Prim.Native.Nat.{ℕ, suc, _+_, _-_, _*_, _≤_, _<_, min}
-use mathlib.Core.Path.{_≡_, refl, _∙_}
-use mathlib.Core.List.{List}
+use Prim.Native.Nat.{ℕ, zero, suc, _+_, _-_, _*_, _≤_, _<_, min}
+use mathlib.Core.Path.{_≡_, refl, sym, _∙_}
+use mathlib.Core.List.{List, [], _∷_}
 use mathlib.Core.Option.{some}
-use mathlib.Core.Bool.{false}
+use mathlib.Core.Bool.{Bool, true, false}
 use native.Mathlib.Omega.{arith}
+use native.Mathlib.Nat.{add-zero}
 use native.Mathlib.Numerals.{add-one}
 use lib.ListN.{length, take, set}
 use lib.Seq.{take-set-le}
-use Rattle.sema.specs.Marks.{key}
-use Rattle.sema.specs.Keys.{hasKey, addKey, addIndices, addRange}
-use Rattle.context.specs.View.{keyBy, keysIn}
+use Rattle.sema.specs.Marks.{Key, key}
+use Rattle.sema.specs.Keys.{sameKey, hasKey, addKey, addIndices, addRange}
+use Rattle.context.specs.View.{keyBy, keyAt, keysFrom, keysIn}
 use Rattle.sheet.specs.Sheet.{Indexed, position, KeysAdded}
 use Rattle.sheet.specs.Heads.{index-key}
-use Rattle.sheet.specs.Places.{position-has, position-none}
+use Rattle.sheet.specs.Places.{by-test, has-here, has-there, position-has, position-none}
 use Rattle.sheet.specs.Table.{length-keys, add-there, add-new, length-new, AtLeast, more-long, keep-indices, keys-stored, added-full}
 
 -- one key
@@ -49,6 +50,37 @@ module _ (index : List ℕ) (count head i n : ℕ) (t : Indexed index count) (e 
           keys = λ u. rw (add-one count, add-new (keysIn index count) (keyBy head i) new) (keys-stored index count head i (t .size) l);
           texts = take-set-le 256 (set index at head) (at + 1) i (omega arith) ∙ take-set-le 256 index at head (omega arith);
         })
+
+-- a key that stands at a number is there
+has-at : (index : List ℕ) (n k : ℕ) (l : Key) (j : ℕ) → j < n → sameKey (keyAt index (k + j)) l ≡ true → hasKey (keysFrom index k n) l ≡ true
+unfolding keysFrom
+has-at index zero k l j h e = absurd (omega arith)
+has-at index (suc n) k l zero h e = has-here (keyAt index k) (keysFrom index (suc k) n) l (rw (add-zero k) at e)
+has-at index (suc n) k l (suc j) h e =
+    let f : k + suc j ≡ suc k + j = omega arith in
+    by-test (sameKey (keyAt index k) l) (λ t. has-here (keyAt index k) (keysFrom index (suc k) n) l t)
+    (λ t. has-there (keyAt index k) (keysFrom index (suc k) n) l t ∙ has-at index n (suc k) l j (omega arith) (rw f at e))
+
+pub added-near : (index : List ℕ) (count head i near : ℕ) (r : Bool) → Indexed index count → near < count → r ≡ sameKey (keyAt index near) (keyBy head i) → r ≡ true
+    → KeysAdded index index count (addKey (keysIn index count) (keyBy head i))
+added-near index count head i near r t h e f =
+    let ks = keysIn index count in
+    let b : 0 + near ≡ near = omega arith in
+    let a = add-there ks (keyBy head i) (has-at index count 0 (keyBy head i) near h (rw b (sym e ∙ f))) in
+    rw a (record { counted = omega (arith, length-keys index 0 count, t .few); keys = λ g. refl; texts = refl })
+
+-- the number of a key is at most how many there are
+position-few : (ls : List Key) (k : Key) → position ls k ≤ length ls
+unfolding position
+position-few [] k = omega arith
+position-few (l ∷ ls) k = go (sameKey l k) (position-few ls k)
+  where
+    go : (b : Bool) → position ls k ≤ length ls → elim b [ true ↦ 0 | false ↦ suc (position ls k) ] ≤ suc (length ls)
+    go true h = omega arith
+    go false h = omega arith
+
+pub near-small : (index : List ℕ) (count r : ℕ) (k : Key) (n m j : ℕ) → Indexed index count → r ≡ position (keysIn index count) k → j ≤ m → m ≡ min n 257 → r + j ≤ 513
+near-small index count r k n m j t e h f = omega (arith, position-few (keysIn index count) k, length-keys index 0 count, t .few)
 
 -- so many indices, of which j are added
 pub record Adding (before : List ℕ) (count x i n m : ℕ) (index : List ℕ) (c j : ℕ) : Type 0 where

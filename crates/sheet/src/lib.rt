@@ -314,6 +314,20 @@ pub fn add_key(index: &mut [u64], count: usize, head: u64, i: u64) -> usize
     count + 1
 }
 
+// As add_key, where the key may stand at a number that is near.
+fn add_near(index: &mut [u64], count: usize, near: usize, head: u64, i: u64) -> usize
+    requires { ⌜ Indexed (now index) count ⌝ }
+    ensures added { λ r. ⌜ KeysAdded (now (index .entry)) (now (index .exit)) r (addKey (keysIn (now (index .entry)) count) (keyBy head i)) ⌝ }
+    ensures over { λ r. ⌜ (r ≡ 257 → now (index .exit) ≡ now (index .entry)) ⌝ }
+{
+    if near < count {
+        if same_key(index[256 + 2 * near], index[256 + 2 * near + 1], head, i) {
+            return count;
+        }
+    }
+    add_key(index, count, head, i)
+}
+
 fn at_most_257(n: u64) -> u64
     ensures { λ r. ⌜ r ≡ min n 257 ⌝ }
 {
@@ -328,10 +342,11 @@ pub fn add_range(index: &mut [u64], count: usize, x: usize, i: u64, n: u64) -> u
 {
     let head = index_head(x);
     let m = at_most_257(n);
+    let first = find(index, count, head, i);
     let mut c = count;
     let mut j = 0;
     while j < m {
-        c = add_key(index, c, head, i + j);
+        c = add_near(index, c, first + j as usize, head, i + j);
         if c == 257 {
             return 257;
         }

@@ -1,18 +1,10 @@
 // Validates the trees on standard input, each behind its length in four bytes, and prints a line for each.
-use libc::STDIN_FILENO;
+use cases::Case;
 use libc::STDOUT_FILENO;
 use reader::Validated;
-ghost use mathlib.Core.Path.{_≡_};
-ghost use Prim.Native.Nat.{_<_};
 
 // More cases than the input has.
 const CASES: usize = 10000;
-
-fn wide(x: u8) -> usize
-    ensures { λ r. ⌜ (r ≡ x) × (r < 256) ⌝ }
-{
-    x as usize
-}
 
 fn print(answer: Validated) {
     match answer {
@@ -29,27 +21,15 @@ fn print(answer: Validated) {
     }
 }
 
-// Whether the whole tree was there.
-fn run_tree(tree: &mut [u8]) -> bool {
-    if io::read_full(STDIN_FILENO, tree) < tree.len() {
-        return false;
+// Whether there was a tree.
+fn run_next(space: &mut [u8]) -> bool {
+    match cases::next(space) {
+        Case::End => false,
+        Case::Tree(n) => {
+            print(reader::validate(&space[..n]));
+            true
+        }
     }
-    print(reader::validate(tree));
-    true
-}
-
-// Whether there was a case, and it fits.
-fn run_case(space: &mut [u8]) -> bool {
-    let mut size = [0u8; 4];
-    if io::read_full(STDIN_FILENO, &mut size) < 4 {
-        return false;
-    }
-    let high = wide(size[0]) * 256 + wide(size[1]);
-    let n = high * 65536 + wide(size[2]) * 256 + wide(size[3]);
-    if space.len() < n {
-        return false;
-    }
-    run_tree(&mut space[..n])
 }
 
 fn main() {
@@ -57,7 +37,7 @@ fn main() {
     let space: &mut [u8] = &mut bytes;
     let mut left = CASES;
     while 0 < left {
-        if !run_case(space) {
+        if !run_next(space) {
             return;
         }
         left -= 1;

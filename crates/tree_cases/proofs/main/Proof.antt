@@ -15,7 +15,7 @@ main-spec =
     (λ c κs. search needs)  -- large-buffer-requires
     (λ c. search needs)  -- slice-aggregate-space
     (λ c. tt)  -- loop-holds
-    (λ c κs. search needs)  -- run-case-requires
+    (λ c κs. search needs)  -- run-next-requires
     (λ c. search needs)  -- returns
     (λ c. search needs)  -- sub-left
     (λ c. search needs)  -- loop-less

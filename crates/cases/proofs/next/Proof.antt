@@ -1,12 +1,12 @@
--- `tree_cases::run_case` meets its contract. Assumes nothing.
+-- `cases::next` meets its contract. Assumes nothing.
 use mathlib.Core.Path.{sym}
 use lib.Seq.{length-take-le}
 use borrow.Author.Needs.{needs}
-use Rattle.tree_cases.proofs.run_case.Statement.{statement}
-use Rattle.tree_cases.proofs.run_case.Tie as tie
+use Rattle.cases.proofs.next.Statement.{statement}
+use Rattle.cases.proofs.next.Tie as tie
 
-pub run-case-spec : {M : Type 1} → statement M
-run-case-spec =
+pub next-spec : {M : Type 1} → statement M
+next-spec =
     tie.close (tie.spec
     (λ c. search needs)  -- slice-aggregate-read-full
     (λ c κs. search needs)  -- read-full-requires
@@ -26,8 +26,10 @@ run-case-spec =
     (λ c κs. search needs)  -- wide-requires-4
     (λ c. search needs)  -- add-n-2
     (λ c. search needs)  -- returns-2
-    (λ c. search needs)  -- slice-relend-prefix-run-tree
-    (λ c. sym (length-take-le _ _ (search needs)))  -- slice-aggregate-run-tree
-    (λ c κs. search needs)  -- run-tree-requires
+    (λ c. search needs)  -- slice-relend-prefix-read-full
+    (λ c. sym (length-take-le _ _ (search needs)))  -- slice-aggregate-read-full-2
+    (λ c κs. search needs)  -- read-full-requires-2
     (λ c. search needs)  -- same-length
-    (λ c. search needs))  -- returns-3
+    (λ c. search needs)  -- returns-3
+    (λ c. search needs)  -- same-length-2
+    (λ c. search needs))  -- returns-4

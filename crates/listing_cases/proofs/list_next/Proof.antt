@@ -1,0 +1,24 @@
+-- `listing_cases::list_next` meets its contract. Assumes nothing.
+use mathlib.Core.Path.{sym, ap}
+use native.Mathlib.Omega.{arith}
+use lib.Seq.{length-take-le}
+use Rattle.cases.specs.Case.{sizeOf}
+use borrow.Author.Needs.{needs}
+use Rattle.listing_cases.proofs.list_next.Statement.{statement}
+use Rattle.listing_cases.proofs.list_next.Tie as tie
+
+pub list-next-spec : {M : Type 1} → statement M
+list-next-spec =
+    tie.close (tie.spec
+    (λ c κs. search needs)  -- next-requires
+    (λ c. search needs)  -- enum-told
+    (λ c. search needs)  -- enum-known-n
+    (λ c. omega (arith, c .before .before .before .before .before .next .ensures, ap sizeOf (c .before .n .given .1), c .before .before .before .before .space .given))  -- slice-reshare-prefix-list
+    (λ c. sym (length-take-le _ _ (omega (arith, c .before .before .before .before .before .before .next .ensures, ap sizeOf (c .before .before .n .given .1), c .before .before .before .before .before .space .given))))  -- slice-aggregate-list
+    (λ c κs. search needs)  -- list-requires
+    (λ c. search needs)  -- same-length
+    (λ c. search needs)  -- returns
+    (λ c. search needs)  -- same-length-2
+    (λ c. search needs)  -- same-length-3
+    (λ c. search needs)  -- same-length-4
+    (λ c. search needs))  -- returns-2
