@@ -110,8 +110,8 @@ fn write_staged(stage: &[u8], listing: &mut [u8], sink: Sink)
     requires { ⌜ (sink .n ≤ length (now stage)) × (length (ended (spaced (text "list") (decimal (sink .errors) ∷ decimal (sink .warnings) ∷ []) ∷ [])) + sink .n ≤ length (now listing)) ⌝ }
     ensures { λ _. ⌜ now (listing .exit) ≡ sets (sets (now (listing .entry)) 0 (ended (spaced (text "list") (decimal (sink .errors) ∷ decimal (sink .warnings) ∷ []) ∷ []))) (length (ended (spaced (text "list") (decimal (sink .errors) ∷ decimal (sink .warnings) ∷ []) ∷ []))) (take (sink .n) (now (stage .entry))) ⌝ }
 {
-    let head = lines::first_line(listing, sink.errors, sink.warnings);
-    bytes::copy(&stage[..sink.n], &mut listing[head..]);
+    let after = lines::first_line(listing, sink.errors, sink.warnings);
+    bytes::copy(&stage[..sink.n], &mut listing[after..]);
 }
 
 // The first walk learns the counts and the length. A second writes where the stage had too little room.

@@ -33,6 +33,7 @@ pub extern "C" fn puntsalak_check(
     ensures answers { λ _. ⌜ now (answer .exit) ≡ fourOf (answerTo (now (tree .entry)) (length (now (scratch .entry))) (length (now (listing .entry)))) ⌝ }
     ensures listed { λ _. ⌜ now (listing .exit) ≡ listingAfter (now (tree .entry)) (now (listing .entry)) (answerTo (now (tree .entry)) (length (now (scratch .entry))) (length (now (listing .entry)))) ⌝ }
     ensures cleared { λ _. ⌜ now (scratch .exit) ≡ scratchAfter (now (scratch .entry)) ⌝ }
+    ensures billed { λ _. ⌜ ((errors warnings size : ℕ) → answerTo (now (tree .entry)) (length (now (scratch .entry))) (length (now (listing .entry))) ≡ accepted errors warnings size → Claim (now (tree .entry)) (now (listing .exit)) size) ⌝ }
 {
     let a = checker::check(tree, scratch, listing);
     *answer = four(a);

@@ -12,4 +12,4 @@ puntsalak-check-spec =
     (λ c κs. search needs)  -- four-requires
     (λ c. search needs)  -- same-length
     (λ c. search needs)  -- same-length-2
-    (λ c. (c .four .ensures ∙ ap fourOf (c .before .before .before .before .before .check .ensures .0), (c .before .before .before .before .before .check .ensures .1 .0, c .before .before .before .before .before .check .ensures .1 .1 .0))))  -- returns
+    (λ c. (c .four .ensures ∙ ap fourOf (c .before .before .before .before .before .check .ensures .0), (c .before .before .before .before .before .check .ensures .1 .0, (c .before .before .before .before .before .check .ensures .1 .1 .0, λ e w n h. c .before .before .before .before .before .check .ensures .1 .1 .1 e w n (c .before .before .before .before .before .check .ensures .0 ∙ h))))))  -- returns
