@@ -53,6 +53,7 @@ pub fn listing_length(turn: usize, exact: usize) -> usize {
 
 pub struct Buffers {
     pattern: Vec<u8>,
+    zeros: Vec<u8>,
     scratch: Vec<u8>,
     listing: Vec<u8>,
 }
@@ -62,7 +63,8 @@ impl Buffers {
         let mut draws = crate::draws::Draws::new(1, 1);
         // No byte is 0, so that one that is cleared shows.
         let pattern: Vec<u8> = (0..MOST).map(|_| 1 + draws.below(255) as u8).collect();
-        Buffers { scratch: pattern.clone(), listing: pattern.clone(), pattern }
+        let zeros = vec![0; SCRATCH_BYTES];
+        Buffers { scratch: pattern.clone(), listing: pattern.clone(), zeros, pattern }
     }
 
     /// The listing of the last call.
@@ -103,7 +105,7 @@ impl Buffers {
         if !self.kept(&self.listing, written, used) {
             return Err(format!("{at}: the listing buffer has other bytes changed"));
         }
-        if self.scratch[GUARD..GUARD + cleared].iter().any(|byte| *byte != 0) {
+        if self.scratch[GUARD..GUARD + cleared] != self.zeros[..cleared] {
             return Err(format!("{at}: the scratch is not cleared"));
         }
         if !self.kept(&self.scratch, cleared, used) {

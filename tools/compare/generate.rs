@@ -47,7 +47,7 @@ pub fn case(seed: u64, number: u64) -> Case {
             whole(kind, maker, statements)
         }
         5 if round % 2 == 1 => damaged(maker),
-        _ => random(maker),
+        _ => random(maker, number < DENSE),
     }
 }
 
@@ -66,7 +66,8 @@ fn whole(kind: &'static str, maker: Maker, statements: Vec<Stmt>) -> Case {
     Case { kind, tree, bytes }
 }
 
-fn random(mut maker: Maker) -> Case {
+/// Large trees are more frequent among the dense cases.
+fn random(mut maker: Maker, dense: bool) -> Case {
     const STYLES: [(&str, Weights, usize); 5] = [
         ("random", ANY, 50),
         ("random marks", MARKS, 85),
@@ -79,10 +80,10 @@ fn random(mut maker: Maker) -> Case {
     if style == 4 {
         maker.variables.truncate(2);
     }
-    let count = match maker.draws.below(10) {
-        0..=3 => 1 + maker.draws.below(4),
-        4..=8 => 5 + maker.draws.below(16),
-        _ => 20 + maker.draws.below(40),
+    let count = match maker.draws.below(if dense { 10 } else { 100 }) {
+        0..=4 => 5 + maker.draws.below(16),
+        5 => 20 + maker.draws.below(40),
+        _ => 1 + maker.draws.below(5),
     };
     let mut statements = maker.declarations(qubits);
     statements.extend(maker.many(count, |m| m.statement(&weights, STATEMENT_LEVELS)));
@@ -98,7 +99,7 @@ fn random(mut maker: Maker) -> Case {
 /// is read back from it.
 fn damaged(mut maker: Maker) -> Case {
     let mut draws = Draws::new(maker.draws.next(), 0);
-    let mut case = random(maker);
+    let mut case = random(maker, true);
     case.kind = "damaged";
     let place = draws.below(case.bytes.len());
     match draws.below(5) {

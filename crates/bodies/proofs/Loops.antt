@@ -39,14 +39,6 @@ use Rattle.bodies.specs.Opened.{forBody, ForOpened}
 use Rattle.bodies.specs.Parts.{ForPartsOf, isInt, variableSays, boundsSay}
 use Rattle.bodies.proofs.Reports.{error-emitted}
 
-pub type-other : (n : ℕ) → (n ≡ 1 → ⊥) → (n ≡ 2 → ⊥) → (n ≡ 3 → ⊥) → (n ≡ 4 → ⊥) → ClassicalType.Int ≡ typeOf n
-type-other zero a b c d = refl
-type-other (suc zero) a b c d = absurd (a refl)
-type-other (suc (suc zero)) a b c d = absurd (b refl)
-type-other (suc (suc (suc zero))) a b c d = absurd (c refl)
-type-other (suc (suc (suc (suc zero)))) a b c d = absurd (d refl)
-type-other (suc (suc (suc (suc (suc n))))) a b c d = refl
-
 pub range-in : (t : List Text) (s : List ℕ) (at : ℕ) → IsOk (forRange t s at) → at < length s
 range-in t s at h = expr-in t 32 s at (forRange-start t s at h)
 

@@ -21,6 +21,7 @@ use ast::ClassicalType;
 use context::Sink;
 use lines::Message;
 use lines::Place;
+use scopes::type_at;
 use span::Span;
 
 // The parts of a `for`.
@@ -31,24 +32,12 @@ pub struct ForParts {
     pub span: Span,
 }
 
-fn type_of(n: u8) -> ClassicalType
-    ensures { λ r. ⌜ r ≡ typeOf n ⌝ }
-{
-    match n {
-        1 => ClassicalType::UInt,
-        2 => ClassicalType::Float,
-        3 => ClassicalType::Angle,
-        4 => ClassicalType::Bool,
-        _ => ClassicalType::Int,
-    }
-}
-
 pub fn for_parts(tree: &[u8], at: usize, left: usize) -> ForParts
     requires { ⌜ IsOk (stmt (textsOf (now tree)) left (now tree) at) × (getD (now tree) at 0 ≡ 13) ⌝ }
     ensures { λ r. ⌜ ForPartsOf (now (tree .entry)) left at r ⌝ }
 {
     let name = u16_at(tree, at + 1);
-    let ty = type_of(tree[at + 3]);
+    let ty = type_at(tree, at + 3);
     let body_at = skip_range(tree, at + 4);
     let span = span_at(tree, skip_body(tree, body_at, left - 1));
     ForParts {

@@ -48,18 +48,6 @@ use Rattle.declarations.proofs.Sayings.{silent}
 use Rattle.declarations.proofs.Declares.{context-is, changed-walked, after-is, name-is, span-is, becomes-as}
 use Rattle.declarations.proofs.Targets.{checked-mismatch}
 
--- a type by its byte
-pub type-by : (n k : ℕ) (ty : ClassicalType) → n ≡ k → ty ≡ typeOf k → ty ≡ typeOf n
-type-by n k ty e f = rw e f
-
-pub type-other : (n : ℕ) → (n ≡ 1 → ⊥) → (n ≡ 2 → ⊥) → (n ≡ 3 → ⊥) → (n ≡ 4 → ⊥) → ClassicalType.Int ≡ typeOf n
-type-other zero a b c d = refl
-type-other (suc zero) a b c d = absurd (a refl)
-type-other (suc (suc zero)) a b c d = absurd (b refl)
-type-other (suc (suc (suc zero))) a b c d = absurd (c refl)
-type-other (suc (suc (suc (suc zero)))) a b c d = absurd (d refl)
-type-other (suc (suc (suc (suc (suc n))))) a b c d = refl
-
 -- a qualifier by its bytes
 module _ (s : List ℕ) (at : ℕ) (h : IsOk (option qualifier s at)) where
   pub qualifier-none : getD s at 0 ≡ 0 → 0 ≡ qualifierCode (valueOr none (option qualifier s at))

@@ -37,7 +37,6 @@ use lines::Message;
 use parts::Function;
 use parts::function_at;
 use parts::qualifier_at;
-use parts::type_at;
 use reports::check_kind;
 use reports::check_qualifier;
 use reports::check_return;
@@ -45,6 +44,7 @@ use reports::check_value;
 use reports::report_declared;
 use reports::report_defined;
 use reports::report_error;
+use scopes::type_at;
 use span::Span;
 
 // Gives the name a symbol in the innermost scope; the first declaration stays.

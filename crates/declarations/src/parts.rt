@@ -1,14 +1,12 @@
 // The parts of a classical declaration and of a function definition, as their bytes say.
 ghost use mathlib.Core.Path.{_≡_};
 ghost use mathlib.Core.Option.{none};
-ghost use Prim.Native.Nat.{_<_};
-ghost use lib.ListN.{length, getD};
+ghost use lib.ListN.{getD};
 ghost use Rattle.tree.specs.Ans.{IsOk};
 ghost use Rattle.tree.specs.Read.{option};
 ghost use Rattle.tree.specs.Stmts.{qualifier, stmt};
 ghost use Rattle.tree.specs.Decode.{textsOf};
 ghost use Rattle.accepted.specs.Parts.{valueOr};
-ghost use Rattle.context.specs.View.{typeOf};
 ghost use Rattle.declarations.specs.Says.{qualifierCode};
 ghost use Rattle.declarations.specs.Checked.{FunctionAt};
 use accepted::exprs::skip_expr;
@@ -16,6 +14,7 @@ use accepted::numbers::span_at;
 use accepted::numbers::u16_at;
 use accepted::parts::skip_params;
 use ast::ClassicalType;
+use scopes::type_at;
 use span::Span;
 
 // A function definition: `body` is the place of its expression, `end` the place past the statement.
@@ -25,20 +24,6 @@ pub struct Function {
     pub body: usize,
     pub span: Span,
     pub end: usize,
-}
-
-// The type by its byte, which is below 5 in an accepted tree.
-pub fn type_at(tree: &[u8], at: usize) -> ClassicalType
-    requires { ⌜ at < length (now tree) ⌝ }
-    ensures { λ r. ⌜ r ≡ typeOf (getD (now (tree .entry)) at 0) ⌝ }
-{
-    match tree[at] {
-        1 => ClassicalType::UInt,
-        2 => ClassicalType::Float,
-        3 => ClassicalType::Angle,
-        4 => ClassicalType::Bool,
-        _ => ClassicalType::Int,
-    }
 }
 
 // 0 for no qualifier, else one more than its case.

@@ -13,7 +13,6 @@ use Rattle.ast.specs.Tree.{GateOperand}
 use Rattle.sema.specs.Marks.{Key, apply, clearMeasured, unite}
 use Rattle.context.specs.View.{keyAt, keysIn, marksOf, measureSpan, PlaceOk, Placed}
 use Rattle.sheet.specs.Sheet.{first, stored, united, reaches, touches, measuring, Covers}
-use Rattle.sheet.specs.Places.{first-zero, first-some}
 use Rattle.sheet.specs.Effects.{marks-set, marks-clear, marks-united}
 use Rattle.sheet.specs.Table.{length-keys}
 use Rattle.sheet.specs.Kept.{stored-placed, united-placed}
@@ -106,7 +105,7 @@ pub uniting-start : (a b : List ℕ) → length a ≡ 256 → length b ≡ 256 �
 uniting-start a b l m = record { within = omega arith; size = l; left = l; right = m; same = refl }
 
 module _ (a b r r′ : List ℕ) (i : ℕ) (u : Uniting a b r i) where
-  uniting-more : i < 256 → r′ ≡ set r i (first (getD r i 0) (getD b i 0)) → Uniting a b r′ (i + 1)
+  pub uniting-more : i < 256 → r′ ≡ set r i (first (getD r i 0) (getD b i 0)) → Uniting a b r′ (i + 1)
   unfolding united
   uniting-more h e =
       let v = first (getD r i 0) (getD b i 0) in
@@ -124,13 +123,6 @@ module _ (a b r r′ : List ℕ) (i : ℕ) (u : Uniting a b r i) where
             (one-more r i v hr (united (drop (i + 1) r) (drop (i + 1) b)));
       })
 
-  module _ (h : i < 256) where
-    pub uniting-then : getD r i 0 ≡ 0 → r′ ≡ set r i (getD b i 0) → Uniting a b r′ (i + 1)
-    uniting-then z e = uniting-more h (rw (first-zero (getD r i 0) (getD b i 0) z) e)
-
-    pub uniting-else : (getD r i 0 ≡ 0 → ⊥) → r′ ≡ r → Uniting a b r′ (i + 1)
-    uniting-else z e = uniting-more h (rw (first-some (getD r i 0) (getD b i 0) z) (e ∙ sym (set-getD r i 0)))
-
 module _ (a b r : List ℕ) (i : ℕ) (u : Uniting a b r i) (h : 256 ≤ i) where
   all-united : united a b ≡ r
   unfolding united
@@ -142,4 +134,4 @@ module _ (a b r : List ℕ) (i : ℕ) (u : Uniting a b r i) (h : 256 ≤ i) wher
   pub uniting-placed : (tree : List ℕ) → Placed tree a → Placed tree b → Placed tree r
   uniting-placed tree e f = rw (← all-united) (united-placed tree a b e f)
 
-pub ruleset uniting = (uniting-start, uniting-then, uniting-else, uniting-end, uniting-placed)
+pub ruleset uniting = (uniting-start, uniting-more, uniting-end, uniting-placed)

@@ -11,7 +11,7 @@ ghost use Rattle.sema.specs.Marks.{Key, key, noMarks, inSlice, isIndex, belowSi
 ghost use Rattle.sema.specs.Keys.{sameKey, addKey, addRange, addMeasured, sizeOr0};
 ghost use Rattle.context.specs.Values.{numberOf, endsOf, operandOf};
 ghost use Rattle.context.specs.View.{keyBy, keysIn, placeIn, marksOf, measureSpan, PlaceOk, Placed};
-ghost use Rattle.sheet.specs.Sheet.{Indexed, position, lookupIn, smaller, offer, leastIn, smallestIn, Covers, reaches, touches, measuring, stored, KeysAdded};
+ghost use Rattle.sheet.specs.Sheet.{Indexed, position, lookupIn, smaller, offer, leastIn, smallestIn, Covers, reaches, touches, measuring, stored, KeysAdded, first};
 use context::Ends;
 use context::GateOperand;
 use context::Number;
@@ -273,6 +273,13 @@ pub fn clear(sheet: [u16; 256], index: &[u64], count: usize, op: GateOperand) ->
     store(sheet, index, count, op, Number::None, true, 0)
 }
 
+// A place, or another where it is none.
+fn either(place: u16, other: u16) -> u16
+    ensures { λ r. ⌜ r ≡ first place other ⌝ }
+{
+    if place == 0 { other } else { place }
+}
+
 // Both exits of a branch: the marks of a, and where it has none those of b.
 pub fn unite(a: [u16; 256], b: [u16; 256]) -> [u16; 256]
     ensures placed { λ r. ⌜ ((tree : List ℕ) → Placed tree a → Placed tree b → Placed tree r) ⌝ }
@@ -281,9 +288,7 @@ pub fn unite(a: [u16; 256], b: [u16; 256]) -> [u16; 256]
     let mut r = a;
     let mut i = 0;
     while i < 256 {
-        if r[i] == 0 {
-            r[i] = b[i];
-        }
+        r[i] = either(r[i], b[i]);
         i += 1;
     }
     r

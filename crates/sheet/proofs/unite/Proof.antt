@@ -1,7 +1,8 @@
 -- `sheet::unite` meets its contract. Assumes nothing.
 use Prim.Native.Nat.{_-_}
-use mathlib.Core.Logic.{⊎-elim}
-use Rattle.sheet.proofs.Sheets.{Uniting, uniting}
+use mathlib.Core.Path.{ap}
+use lib.ListN.{set}
+use Rattle.sheet.proofs.Sheets.{Uniting, uniting, uniting-more}
 use borrow.Author.Needs.{needs}
 use Rattle.sheet.proofs.unite.Statement.{statement}
 use Rattle.sheet.proofs.unite.Tie as tie
@@ -16,13 +17,14 @@ pub unite-spec : {M : Type 1} → statement M
 unite-spec =
     tie.close (tie.spec Inv-loop μ-loop
     (λ c. search uniting)  -- loop-holds
-    (λ c. search needs)  -- mul-if1
-    (λ c. search needs)  -- array-read-if1
+    (λ c. search needs)  -- mul-either
+    (λ c. search needs)  -- array-read-either
+    (λ c. search needs)  -- mul-either-2
+    (λ c. search needs)  -- array-read-either-2
+    (λ c κs. search needs)  -- either-requires
     (λ c. search needs)  -- mul-r
-    (λ c. search needs)  -- array-read-r
-    (λ c. search needs)  -- mul-r-2
     (λ c. search needs)  -- array-write-r
     (λ c. search needs)  -- add-i
     (λ c. search needs)  -- loop-less
-    (λ c. ⊎-elim (λ w. search uniting) (λ w. search uniting) (c .if1 .came))  -- loop-again
+    (λ c. uniting-more _ _ _ _ _ (c .before .before .loop .inv) (search needs) (ap (set (c .before .before .loop .r) (c .before .before .loop .i)) (c .either .ensures)))  -- loop-again
     (λ c. search uniting))  -- returns
