@@ -11,15 +11,16 @@ use Rattle.tree.specs.Ans.{Ans, ok, refused, bind, _>>=_, _>>_, done, here, ref
 use Rattle.tree.specs.Texts.{texts}
 use Rattle.tree.specs.Stmts.{body, stmt}
 use Rattle.tree.specs.Decode.{size, nothingLeft, file, decode, textsOf}
-use Rattle.reader.specs.Answers.{forget, validated, gaveNumber, numberAnswer}
-use Rattle.reader.specs.Section.{textCount, kindsOf, Gathered}
-use Rattle.reader.specs.declared.answers.Read.{Read}
-use Rattle.reader.specs.declared.answers.Read.the-variants.{At, Refused}
-use Rattle.reader.specs.declared.answers.ReadNumber.{ReadNumber}
+use Rattle.reading.specs.Answers.{forget, gaveNumber, numberAnswer}
+use Rattle.reader.specs.Answers.{validated}
+use Rattle.reading.specs.Section.{textCount, kindsOf, Gathered}
+use Rattle.reading.specs.declared.answers.Read.{Read}
+use Rattle.reading.specs.declared.answers.Read.the-variants.{At, Refused}
+use Rattle.reading.specs.declared.answers.ReadNumber.{ReadNumber}
 use Rattle.reader.specs.declared.Validated.the-variants.{Accepted, Refused as ValidatedRefused}
-use Rattle.reader.proofs.Taken.{number-ok, number-left, number-refused}
-use Rattle.reader.proofs.Values.{not-both, bind-refused}
-use Rattle.reader.proofs.Gathered.{texts-from, count-few}
+use Rattle.reading.proofs.Taken.{number-ok, number-left, number-refused}
+use Rattle.reading.proofs.Values.{not-both, bind-refused}
+use Rattle.reading.proofs.Gathered.{texts-from, count-few}
 
 -- the answer for the caller
 module _ (x : Ans Program) (a : Read) (e : a ≡ forget x) where

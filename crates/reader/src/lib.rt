@@ -1,18 +1,14 @@
 // Validates the bytes of a tree file: what the decoder answers, without the tree.
-mod answers;
 mod bodies;
-mod exprs;
-mod numbers;
-mod parts;
-mod spelling;
-mod stmts;
-mod texts;
 
-use answers::Read;
-use answers::ReadNumber;
+use reading::answers::Read;
+use reading::answers::ReadNumber;
+use reading::numbers;
+use reading::texts;
 ghost use mathlib.Core.Path.{_≡_};
 ghost use Rattle.tree.specs.Decode.{decode};
-ghost use Rattle.reader.specs.Answers.{forget, validated};
+ghost use Rattle.reading.specs.Answers.{forget};
+ghost use Rattle.reader.specs.Answers.{validated};
 
 pub enum Validated {
     Accepted,

@@ -3,12 +3,12 @@ use Rattle.ast.specs.Tree.{noStmt, moreStmt}
 use Rattle.tree.specs.Read.{repeat}
 use Rattle.tree.specs.Decode.{textsOf}
 use Rattle.tree.specs.Stmts.{stmt, body}
-use Rattle.reader.specs.Answers.{forget}
+use Rattle.reading.specs.Answers.{forget}
 use mathlib.Core.Path.{_≡_}
 use Rattle.reader.proofs.Cases.{statements, bodies, else-is}
-use Rattle.reader.proofs.Values.{vecs, options, case-there}
-use Rattle.reader.proofs.Runs.{runs-stop, runs-end}
-use Rattle.reader.proofs.Fields.{stmt-fields}
+use Rattle.reading.proofs.Values.{vecs, options, case-there}
+use Rattle.reading.proofs.Runs.{runs-stop, runs-end}
+use Rattle.reader.proofs.Fields.{body-fields}
 use borrow.Author.Needs.{needs}
 use Prim.Native.Nat.{ℕ, _<_, _+_, _*_}
 use borrow.Fn.Kinds.{In}
@@ -27,7 +27,8 @@ use Rattle.reader.proofs.bodies.read_stmt.Reads as read-stmt
 use Rattle.reader.proofs.bodies.+read_body+read_else+read_for+read_gate_def+read_if+read_stmt+read_while.Lts-read_stmt as read-stmt-lts
 use Rattle.reader.proofs.bodies.read_while.Reads as read-while
 use Rattle.reader.proofs.bodies.+read_body+read_else+read_for+read_gate_def+read_if+read_stmt+read_while.Lts-read_while as read-while-lts
-use Rattle.reader.proofs as fns
+use Rattle.reading.proofs as reading
+use Rattle.forms.proofs as forms
 use Rattle.reader.proofs.bodies.+read_body+read_else+read_for+read_gate_def+read_if+read_stmt+read_while.{statement}
 use Rattle.reader.proofs.bodies.+read_body+read_else+read_for+read_gate_def+read_if+read_stmt+read_while.Tie.{close}
 
@@ -102,7 +103,7 @@ module _ (t : ℕ) where
   read-while-below κs a = (μ-read-while κs a < t) × read-while.Pre κs a
 
   abbrev read-body-calls : read-body-lts.Claims
-  read-body-calls = (fns.numbers.read_u16.Reads.Asked, fns.numbers.read_u16.Reads.Learnt, fns.answers.ReadNumber.into_read.Reads.Asked, fns.answers.ReadNumber.into_read.Reads.Learnt, read-stmt-below, read-stmt.Post)
+  read-body-calls = (reading.numbers.read_u16.Reads.Asked, reading.numbers.read_u16.Reads.Learnt, reading.answers.ReadNumber.into_read.Reads.Asked, reading.answers.ReadNumber.into_read.Reads.Learnt, read-stmt-below, read-stmt.Post)
 
   read-body-closed : {M : Type 1} → read-body-lts.Closed read-body-calls read-body-at read-body.Post M
   read-body-closed =
@@ -123,7 +124,7 @@ module _ (t : ℕ) where
       (λ c. search (bodies, vecs))  -- returns-3: pub fn read_body(s: &[u8], kinds: &[u8], at: usize, left: us ..
 
   abbrev read-else-calls : read-else-lts.Claims
-  read-else-calls = (fns.numbers.read_case.Reads.Asked, fns.numbers.read_case.Reads.Learnt, fns.answers.ReadByte.into_read.Reads.Asked, fns.answers.ReadByte.into_read.Reads.Learnt, read-body-below, read-body.Post)
+  read-else-calls = (reading.numbers.read_case.Reads.Asked, reading.numbers.read_case.Reads.Learnt, reading.answers.ReadByte.into_read.Reads.Asked, reading.answers.ReadByte.into_read.Reads.Learnt, read-body-below, read-body.Post)
 
   read-else-closed : {M : Type 1} → read-else-lts.Closed read-else-calls read-else-at read-else.Post M
   read-else-closed =
@@ -138,7 +139,7 @@ module _ (t : ℕ) where
       (λ c. search (else-is, options))  -- returns-3: fn read_else(s: &[u8], kinds: &[u8], at: usize, left: usize) ..
 
   abbrev read-for-calls : read-for-lts.Claims
-  read-for-calls = (fns.texts.read_name.Reads.Asked, fns.texts.read_name.Reads.Learnt, fns.answers.ReadText.into_read.Reads.Asked, fns.answers.ReadText.into_read.Reads.Learnt, fns.parts.read_type.Reads.Asked, fns.parts.read_type.Reads.Learnt, fns.answers.ReadByte.into_read.Reads.Asked, fns.answers.ReadByte.into_read.Reads.Learnt, fns.parts.read_range.Reads.Asked, fns.parts.read_range.Reads.Learnt, read-body-below, read-body.Post, fns.numbers.read_span.Reads.Asked, fns.numbers.read_span.Reads.Learnt, fns.answers.ReadSpan.into_read.Reads.Asked, fns.answers.ReadSpan.into_read.Reads.Learnt)
+  read-for-calls = (reading.texts.read_name.Reads.Asked, reading.texts.read_name.Reads.Learnt, reading.answers.ReadText.into_read.Reads.Asked, reading.answers.ReadText.into_read.Reads.Learnt, forms.parts.read_type.Reads.Asked, forms.parts.read_type.Reads.Learnt, reading.answers.ReadByte.into_read.Reads.Asked, reading.answers.ReadByte.into_read.Reads.Learnt, forms.parts.read_range.Reads.Asked, forms.parts.read_range.Reads.Learnt, read-body-below, read-body.Post, reading.numbers.read_span.Reads.Asked, reading.numbers.read_span.Reads.Learnt, reading.answers.ReadSpan.into_read.Reads.Asked, reading.answers.ReadSpan.into_read.Reads.Learnt)
 
   read-for-closed : {M : Type 1} → read-for-lts.Closed read-for-calls read-for-at read-for.Post M
   read-for-closed =
@@ -148,26 +149,26 @@ module _ (t : ℕ) where
       (λ c. search needs)  -- enum-known-a: let ReadText::At(_, k) = a else {
       (λ c. search needs)  -- enum-told: return a.into_read();
       (λ c κs. search needs)  -- into-read-requires
-      (λ c. search (stmt-fields, runs-stop))  -- returns
+      (λ c. search (body-fields, runs-stop))  -- returns
       (λ c κs. search needs)  -- read-type-requires: let b = read_type(s, k);
       (λ c. search needs)  -- enum-known-b: let ReadByte::At(_, l) = b else {
       (λ c. search needs)  -- enum-told-2: return b.into_read();
       (λ c κs. search needs)  -- into-read-requires-2
-      (λ c. search (stmt-fields, runs-stop))  -- returns-2
+      (λ c. search (body-fields, runs-stop))  -- returns-2
       (λ c κs. search needs)  -- read-range-requires: let c = read_range(s, kinds, l);
       (λ c. search needs)  -- enum-known-c: let Read::At(m) = c else {
       (λ c. search needs)  -- enum-told-3: return c;
-      (λ c. search (stmt-fields, runs-stop))  -- returns-3
+      (λ c. search (body-fields, runs-stop))  -- returns-3
       (λ c κs. search needs)  -- read-body-requires: let d = read_body(s, kinds, m, left);
       (λ c. search needs)  -- enum-known-d: let Read::At(n) = d else {
       (λ c. search needs)  -- enum-told-4: return d;
-      (λ c. search (stmt-fields, runs-stop))  -- returns-4
+      (λ c. search (body-fields, runs-stop))  -- returns-4
       (λ c κs. search needs)  -- read-span-requires: read_span(s, n).into_read()
       (λ c κs. search needs)  -- into-read-requires-3
-      (λ c. search (stmt-fields, runs-end) depth 6)  -- returns-5: fn read_for(s: &[u8], kinds: &[u8], at: usize, left: usize)  ..
+      (λ c. search (body-fields, runs-end) depth 6)  -- returns-5: fn read_for(s: &[u8], kinds: &[u8], at: usize, left: usize)  ..
 
   abbrev read-gate-def-calls : read-gate-def-lts.Claims
-  read-gate-def-calls = (fns.texts.read_name.Reads.Asked, fns.texts.read_name.Reads.Learnt, fns.answers.ReadText.into_read.Reads.Asked, fns.answers.ReadText.into_read.Reads.Learnt, fns.parts.read_names.Reads.Asked, fns.parts.read_names.Reads.Learnt, read-body-below, read-body.Post, fns.numbers.read_span.Reads.Asked, fns.numbers.read_span.Reads.Learnt, fns.answers.ReadSpan.into_read.Reads.Asked, fns.answers.ReadSpan.into_read.Reads.Learnt)
+  read-gate-def-calls = (reading.texts.read_name.Reads.Asked, reading.texts.read_name.Reads.Learnt, reading.answers.ReadText.into_read.Reads.Asked, reading.answers.ReadText.into_read.Reads.Learnt, forms.parts.read_names.Reads.Asked, forms.parts.read_names.Reads.Learnt, read-body-below, read-body.Post, reading.numbers.read_span.Reads.Asked, reading.numbers.read_span.Reads.Learnt, reading.answers.ReadSpan.into_read.Reads.Asked, reading.answers.ReadSpan.into_read.Reads.Learnt)
 
   read-gate-def-closed : {M : Type 1} → read-gate-def-lts.Closed read-gate-def-calls read-gate-def-at read-gate-def.Post M
   read-gate-def-closed =
@@ -177,25 +178,25 @@ module _ (t : ℕ) where
       (λ c. search needs)  -- enum-known-a: let ReadText::At(_, k) = a else {
       (λ c. search needs)  -- enum-told: return a.into_read();
       (λ c κs. search needs)  -- into-read-requires
-      (λ c. search (stmt-fields, runs-stop))  -- returns
+      (λ c. search (body-fields, runs-stop))  -- returns
       (λ c κs. search needs)  -- read-names-requires: let b = read_names(s, kinds, k);
       (λ c. search needs)  -- enum-known-b: let Read::At(l) = b else {
       (λ c. search needs)  -- enum-told-2: return b;
-      (λ c. search (stmt-fields, runs-stop))  -- returns-2
+      (λ c. search (body-fields, runs-stop))  -- returns-2
       (λ c κs. search needs)  -- read-names-requires-2: let c = read_names(s, kinds, l);
       (λ c. search needs)  -- enum-known-c: let Read::At(m) = c else {
       (λ c. search needs)  -- enum-told-3: return c;
-      (λ c. search (stmt-fields, runs-stop))  -- returns-3
+      (λ c. search (body-fields, runs-stop))  -- returns-3
       (λ c κs. search needs)  -- read-body-requires: let d = read_body(s, kinds, m, left);
       (λ c. search needs)  -- enum-known-d: let Read::At(n) = d else {
       (λ c. search needs)  -- enum-told-4: return d;
-      (λ c. search (stmt-fields, runs-stop))  -- returns-4
+      (λ c. search (body-fields, runs-stop))  -- returns-4
       (λ c κs. search needs)  -- read-span-requires: read_span(s, n).into_read()
       (λ c κs. search needs)  -- into-read-requires-2
-      (λ c. search (stmt-fields, runs-end) depth 6)  -- returns-5: fn read_gate_def(s: &[u8], kinds: &[u8], at: usize, left: us ..
+      (λ c. search (body-fields, runs-end) depth 6)  -- returns-5: fn read_gate_def(s: &[u8], kinds: &[u8], at: usize, left: us ..
 
   abbrev read-if-calls : read-if-lts.Claims
-  read-if-calls = (fns.exprs.read_held.Reads.Asked, fns.exprs.read_held.Reads.Learnt, read-body-below, read-body.Post, read-else-below, read-else.Post, fns.numbers.read_span.Reads.Asked, fns.numbers.read_span.Reads.Learnt, fns.answers.ReadSpan.into_read.Reads.Asked, fns.answers.ReadSpan.into_read.Reads.Learnt)
+  read-if-calls = (forms.exprs.read_held.Reads.Asked, forms.exprs.read_held.Reads.Learnt, read-body-below, read-body.Post, read-else-below, read-else.Post, reading.numbers.read_span.Reads.Asked, reading.numbers.read_span.Reads.Learnt, reading.answers.ReadSpan.into_read.Reads.Asked, reading.answers.ReadSpan.into_read.Reads.Learnt)
 
   read-if-closed : {M : Type 1} → read-if-lts.Closed read-if-calls read-if-at read-if.Post M
   read-if-closed =
@@ -204,21 +205,21 @@ module _ (t : ℕ) where
       (λ c κs. search needs)  -- read-held-requires
       (λ c. search needs)  -- enum-known-a: let Read::At(k) = a else {
       (λ c. search needs)  -- enum-told: return a;
-      (λ c. search (stmt-fields, runs-stop))  -- returns
+      (λ c. search (body-fields, runs-stop))  -- returns
       (λ c κs. search needs)  -- read-body-requires: let b = read_body(s, kinds, k, left);
       (λ c. search needs)  -- enum-known-b: let Read::At(l) = b else {
       (λ c. search needs)  -- enum-told-2: return b;
-      (λ c. search (stmt-fields, runs-stop))  -- returns-2
+      (λ c. search (body-fields, runs-stop))  -- returns-2
       (λ c κs. search needs)  -- read-else-requires: let c = read_else(s, kinds, l, left);
       (λ c. search needs)  -- enum-known-c: let Read::At(m) = c else {
       (λ c. search needs)  -- enum-told-3: return c;
-      (λ c. search (stmt-fields, runs-stop))  -- returns-3
+      (λ c. search (body-fields, runs-stop))  -- returns-3
       (λ c κs. search needs)  -- read-span-requires: read_span(s, m).into_read()
       (λ c κs. search needs)  -- into-read-requires
-      (λ c. search (stmt-fields, runs-end))  -- returns-4: fn read_if(s: &[u8], kinds: &[u8], at: usize, left: usize) - ..
+      (λ c. search (body-fields, runs-end))  -- returns-4: fn read_if(s: &[u8], kinds: &[u8], at: usize, left: usize) - ..
 
   abbrev read-stmt-calls : read-stmt-lts.Claims
-  read-stmt-calls = (fns.numbers.read_case.Reads.Asked, fns.numbers.read_case.Reads.Learnt, fns.answers.ReadByte.into_read.Reads.Asked, fns.answers.ReadByte.into_read.Reads.Learnt, fns.stmts.read_include.Reads.Asked, fns.stmts.read_include.Reads.Learnt, fns.stmts.read_qubit_decl.Reads.Asked, fns.stmts.read_qubit_decl.Reads.Learnt, fns.stmts.read_bit_decl.Reads.Asked, fns.stmts.read_bit_decl.Reads.Learnt, fns.stmts.read_classical_decl.Reads.Asked, fns.stmts.read_classical_decl.Reads.Learnt, fns.stmts.read_assignment.Reads.Asked, fns.stmts.read_assignment.Reads.Learnt, fns.stmts.read_gate_call.Reads.Asked, fns.stmts.read_gate_call.Reads.Learnt, read-gate-def-below, read-gate-def.Post, fns.stmts.read_function_def.Reads.Asked, fns.stmts.read_function_def.Reads.Learnt, fns.stmts.read_measure.Reads.Asked, fns.stmts.read_measure.Reads.Learnt, fns.stmts.read_reset.Reads.Asked, fns.stmts.read_reset.Reads.Learnt, fns.stmts.read_barrier.Reads.Asked, fns.stmts.read_barrier.Reads.Learnt, fns.stmts.read_delay.Reads.Asked, fns.stmts.read_delay.Reads.Learnt, read-if-below, read-if.Post, read-for-below, read-for.Post, read-while-below, read-while.Post)
+  read-stmt-calls = (reading.numbers.read_case.Reads.Asked, reading.numbers.read_case.Reads.Learnt, reading.answers.ReadByte.into_read.Reads.Asked, reading.answers.ReadByte.into_read.Reads.Learnt, forms.stmts.read_include.Reads.Asked, forms.stmts.read_include.Reads.Learnt, forms.stmts.read_qubit_decl.Reads.Asked, forms.stmts.read_qubit_decl.Reads.Learnt, forms.stmts.read_bit_decl.Reads.Asked, forms.stmts.read_bit_decl.Reads.Learnt, forms.stmts.read_classical_decl.Reads.Asked, forms.stmts.read_classical_decl.Reads.Learnt, forms.stmts.read_assignment.Reads.Asked, forms.stmts.read_assignment.Reads.Learnt, forms.stmts.read_gate_call.Reads.Asked, forms.stmts.read_gate_call.Reads.Learnt, read-gate-def-below, read-gate-def.Post, forms.stmts.read_function_def.Reads.Asked, forms.stmts.read_function_def.Reads.Learnt, forms.stmts.read_measure.Reads.Asked, forms.stmts.read_measure.Reads.Learnt, forms.stmts.read_reset.Reads.Asked, forms.stmts.read_reset.Reads.Learnt, forms.stmts.read_barrier.Reads.Asked, forms.stmts.read_barrier.Reads.Learnt, forms.stmts.read_delay.Reads.Asked, forms.stmts.read_delay.Reads.Learnt, read-if-below, read-if.Post, read-for-below, read-for.Post, read-while-below, read-while.Post)
 
   read-stmt-closed : {M : Type 1} → read-stmt-lts.Closed read-stmt-calls read-stmt-at read-stmt.Post M
   read-stmt-closed =
@@ -265,7 +266,7 @@ module _ (t : ℕ) where
       (λ c. search statements)  -- returns-17
 
   abbrev read-while-calls : read-while-lts.Claims
-  read-while-calls = (fns.exprs.read_held.Reads.Asked, fns.exprs.read_held.Reads.Learnt, read-body-below, read-body.Post, fns.numbers.read_span.Reads.Asked, fns.numbers.read_span.Reads.Learnt, fns.answers.ReadSpan.into_read.Reads.Asked, fns.answers.ReadSpan.into_read.Reads.Learnt)
+  read-while-calls = (forms.exprs.read_held.Reads.Asked, forms.exprs.read_held.Reads.Learnt, read-body-below, read-body.Post, reading.numbers.read_span.Reads.Asked, reading.numbers.read_span.Reads.Learnt, reading.answers.ReadSpan.into_read.Reads.Asked, reading.answers.ReadSpan.into_read.Reads.Learnt)
 
   read-while-closed : {M : Type 1} → read-while-lts.Closed read-while-calls read-while-at read-while.Post M
   read-while-closed =
@@ -274,14 +275,14 @@ module _ (t : ℕ) where
       (λ c κs. search needs)  -- read-held-requires
       (λ c. search needs)  -- enum-known-a: let Read::At(k) = a else {
       (λ c. search needs)  -- enum-told: return a;
-      (λ c. search (stmt-fields, runs-stop))  -- returns
+      (λ c. search (body-fields, runs-stop))  -- returns
       (λ c κs. search needs)  -- read-body-requires: let b = read_body(s, kinds, k, left);
       (λ c. search needs)  -- enum-known-b: let Read::At(l) = b else {
       (λ c. search needs)  -- enum-told-2: return b;
-      (λ c. search (stmt-fields, runs-stop))  -- returns-2
+      (λ c. search (body-fields, runs-stop))  -- returns-2
       (λ c κs. search needs)  -- read-span-requires: read_span(s, l).into_read()
       (λ c κs. search needs)  -- into-read-requires
-      (λ c. search (stmt-fields, runs-end))  -- returns-3: fn read_while(s: &[u8], kinds: &[u8], at: usize, left: usize ..
+      (λ c. search (body-fields, runs-end))  -- returns-3: fn read_while(s: &[u8], kinds: &[u8], at: usize, left: usize ..
 
 pub +read-body+read-else+read-for+read-gate-def+read-if+read-stmt+read-while-spec : {M : Type 1} → statement M
 +read-body+read-else+read-for+read-gate-def+read-if+read-stmt+read-while-spec =

@@ -1,0 +1,23 @@
+-- `forms::stmts::read_qubit_decl` meets its contract. Assumes nothing.
+use Rattle.reading.proofs.Runs.{runs-stop, runs-end}
+use Rattle.forms.proofs.Fields.{stmt-fields}
+use borrow.Author.Needs.{needs}
+use Rattle.forms.proofs.stmts.read_qubit_decl.Statement.{statement}
+use Rattle.forms.proofs.stmts.read_qubit_decl.Tie as tie
+
+pub read-qubit-decl-spec : {M : Type 1} → statement M
+read-qubit-decl-spec =
+    tie.close (tie.spec
+    (λ c. search needs)  -- add-read-name
+    (λ c κs. search needs)  -- read-name-requires
+    (λ c. search needs)  -- enum-known-a
+    (λ c. search needs)  -- enum-told
+    (λ c κs. search needs)  -- into-read-requires
+    (λ c. search (stmt-fields, runs-stop))  -- returns
+    (λ c κs. search needs)  -- read-optional-u64-requires
+    (λ c. search needs)  -- enum-known-b
+    (λ c. search needs)  -- enum-told-2
+    (λ c. search (stmt-fields, runs-stop))  -- returns-2
+    (λ c κs. search needs)  -- read-span-requires
+    (λ c κs. search needs)  -- into-read-requires-2
+    (λ c. search (stmt-fields, runs-end)))  -- returns-3

@@ -1,0 +1,199 @@
+-- All texts, and their kinds as the code stores them: what holds while they are read, and at each way out. Assumes nothing.
+use Prim.Native.Nat.{ℕ, zero, suc, _<_, _≤_, _+_, _-_}
+use mathlib.Core.Path.{_≡_, refl, sym, ap, _∙_}
+use mathlib.Core.List.{List, [], _∷_, _++_, map, map-append}
+use mathlib.Core.Bool.{Bool, true, false, not}
+use mathlib.Core.Logic.{_⊎_, inl, inr}
+use native.Mathlib.Omega.{arith}
+use native.Mathlib.Numerals.{add-one}
+use lib.ListN.{length, getD, take, drop, set, length-set}
+use lib.Seq.{take-suc-set}
+use lib.Dec.{leb}
+use borrow.Author.Tests.{le-leb, lt-leb}
+use Rattle.ast.specs.Tree.{Text}
+use Rattle.tree.specs.Limits.{textsLimit, textLimit}
+use Rattle.tree.specs.Ans.{Ans, ok, refused, bind, _>>=_, _>>_, done, here, refuse, check, given}
+use Rattle.tree.specs.Read.{number}
+use Rattle.tree.specs.Texts.{allowed, among, text, moreTexts, texts, between}
+use Rattle.tree.proofs.Steps.{byte-in, byte-end, number-in, number-end}
+use Rattle.reading.specs.Answers.{forget, gaveNumber}
+use Rattle.reading.specs.Section.{textAt, past, textsFrom, pastTexts, textCount, kindOf, kindsOf, Gathered}
+use Rattle.tree.specs.Decode.{textsOf}
+use Rattle.reading.specs.declared.answers.Read.{Read}
+use Rattle.reading.specs.declared.answers.Read.the-variants.{At, Refused}
+use Rattle.reading.specs.declared.answers.ReadNumber.{ReadNumber}
+use Rattle.reading.proofs.Taken.{number-ok, number-not}
+use Rattle.reading.proofs.Leaves.{le-or-lt}
+use Rattle.reading.proofs.Values.{not-both, never-ok, bind-refused}
+use Rattle.reading.proofs.Section.{text-part, empty-is, long-is, cut-is, whole-is}
+
+-- one text more from a place on
+texts-more : (s : List ℕ) (i at : ℕ) → textsFrom s (suc i) at ≡ textsFrom s i at ++ (textAt s (pastTexts s i at) ∷ [])
+unfolding textsFrom pastTexts
+texts-more s zero at = refl
+texts-more s (suc i) at = ap (λ (l : List Text). textAt s at ∷ l) (texts-more s i (past s at))
+
+past-more : (s : List ℕ) (i at : ℕ) → pastTexts s (suc i) at ≡ past s (pastTexts s i at)
+unfolding pastTexts
+past-more s zero at = refl
+past-more s (suc i) at = past-more s i (past s at)
+
+texts-count : (s : List ℕ) (i at : ℕ) → length (textsFrom s i at) ≡ i
+unfolding textsFrom
+texts-count s zero at = refl
+texts-count s (suc i) at = ap suc (texts-count s i (past s at))
+
+-- allowed bytes leave the place as it is
+allowed-told : (cs : List ℕ) (place : ℕ) (s : List ℕ) (at : ℕ) → (allowed cs place s at ≡ ok tt at) ⊎ ((p : ℕ) × (allowed cs place s at ≡ refused 4 p))
+unfolding allowed check done refuse _>>_ bind
+allowed-told [] place s at = inl refl
+allowed-told (c ∷ cs) place s at = go (between 33 126 c) refl (allowed-told cs (place + 1) s at)
+  where
+    go : (b : Bool) → between 33 126 c ≡ b → (allowed cs (place + 1) s at ≡ ok tt at) ⊎ ((p : ℕ) × (allowed cs (place + 1) s at ≡ refused 4 p)) → (allowed (c ∷ cs) place s at ≡ ok tt at) ⊎ ((p : ℕ) × (allowed (c ∷ cs) place s at ≡ refused 4 p))
+    go true e h = rw e h
+    go false e h = inr (place, rw e)
+
+-- a text that was read
+module _ (earlier : List Text) (s : List ℕ) (at : ℕ) (r : Read) (next : ℕ) (read : r ≡ forget (text earlier s at)) (g : r ≡ At next) where
+  not-refused : (m p : ℕ) → text earlier s at ≡ refused m p → ⊥
+  unfolding forget
+  not-refused m p e = not-both g (read ∙ ap forget e)
+
+  text-told : (length s ≤ at) ⊎ (at < length s) → (getD s at 0 ≤ 0) ⊎ (0 < getD s at 0) → (getD s at 0 ≤ textLimit) ⊎ (textLimit < getD s at 0) → (past s at ≤ length s) ⊎ (length s < past s at)
+      → (text earlier s at ≡ ok (textAt s at) (past s at)) × (past s at ≤ length s)
+  unfolding text here check done refuse _>>=_ _>>_ bind
+  text-told (inl h) n m w = absurd (not-refused 3 (length s) (rw (byte-end s at h)))
+  text-told (inr h) (inl n) m w = absurd (not-refused 4 at (empty-is earlier s at _ _ (byte-in s at h) (omega arith)))
+  text-told (inr h) (inr n) (inr m) w = absurd (not-refused 4 at (long-is earlier s at _ _ (byte-in s at h) m))
+  text-told (inr h) (inr n) (inl m) (inr w) = absurd (not-refused 3 (length s) (cut-is earlier s at _ _ (byte-in s at h) (λ z. omega arith) m w))
+  text-told (inr h) (inr n) (inl m) (inl w) = (go (allowed-told (textAt s at) (at + 1) s (past s at)) (among (textAt s at) earlier) refl, w)
+    where
+      whole : text earlier s at ≡ bind (allowed (textAt s at) (at + 1) s (past s at)) (λ u next. _>>_ (check (not (among (textAt s at) earlier)) 4 at) (done (textAt s at)) s next)
+      whole = whole-is earlier s at _ _ (byte-in s at h) (λ z. omega arith) m w
+
+      go : (allowed (textAt s at) (at + 1) s (past s at) ≡ ok tt (past s at)) ⊎ ((p : ℕ) × (allowed (textAt s at) (at + 1) s (past s at) ≡ refused 4 p)) → (b : Bool) → among (textAt s at) earlier ≡ b → text earlier s at ≡ ok (textAt s at) (past s at)
+      go (inl a) false e = whole ∙ rw (a, e) refl
+      go (inl a) true e = absurd (not-refused 4 at (whole ∙ rw (a, e) refl))
+      go (inr a) b e = absurd (not-refused 4 (a .0) (whole ∙ rw (a .1) refl))
+
+  told : (text earlier s at ≡ ok (textAt s at) (past s at)) × (past s at ≤ length s)
+  told = text-told (le-or-lt _ _) (le-or-lt _ _) (le-or-lt _ _) (le-or-lt _ _)
+
+  text-next : next ≡ past s at
+  unfolding forget
+  text-next = let z : At (past s at) ≡ At next = sym (ap forget (told .0)) ∙ sym read ∙ g in cc
+
+  text-read : text earlier s at ≡ ok (textAt s at) next
+  text-read = rw text-next (told .0)
+
+  -- its bytes are there
+  pub text-inside : (at + 1 ≤ next) × (next ≤ length s)
+  text-inside = (omega (arith, text-next), omega (arith, text-next, told .1))
+
+-- the count
+module _ (s : List ℕ) (a : ReadNumber) (read : a ≡ gaveNumber (number 2 s 0)) where
+  pub count-short : (m p : ℕ) → a ≡ ReadNumber.Refused m p → a ≡ gaveNumber (textCount s 0)
+  unfolding textCount here _>>=_ bind gaveNumber
+  count-short m p g = g ∙ rw (number-not a (number 2 s 0) read m p g)
+
+  module _ (n k m : ℕ) (g : a ≡ ReadNumber.At n k) (e : m ≡ n) where
+    pub count-over : textsLimit < m → ReadNumber.Refused 5 0 ≡ gaveNumber (textCount s 0)
+    unfolding textCount here check refuse _>>=_ _>>_ bind gaveNumber
+    count-over h = rw (number-ok a (number 2 s 0) read n k g, lt-leb n textsLimit (rw e at h))
+
+    pub count-read : m ≤ textsLimit → ReadNumber.At n k ≡ gaveNumber (textCount s 0)
+    unfolding textCount here check done _>>=_ _>>_ bind gaveNumber
+    count-read h = rw (number-ok a (number 2 s 0) read n k g, le-leb n textsLimit (rw e at h))
+
+pub ruleset text-counts = (count-short, count-over, count-read)
+
+-- the texts behind their count
+pub texts-from : (s : List ℕ) → texts s 0 ≡ bind (textCount s 0) (λ n next. moreTexts n [] s next)
+unfolding texts textCount here check done refuse _>>=_ _>>_ bind
+texts-from s = go (number 2 s 0)
+  where
+    judge : (n next : ℕ) (b : Bool) → bind (check b 5 0 s next) (λ u k. moreTexts n [] s k) ≡ bind (bind (check b 5 0 s next) (λ u k. ok n k)) (λ n k. moreTexts n [] s k)
+    judge n next true = refl
+    judge n next false = refl
+
+    go : (x : Ans ℕ) → bind x (λ n next. _>>_ (check (leb n textsLimit) 5 0) (moreTexts n []) s next) ≡ bind (bind x (λ n next. _>>_ (check (leb n textsLimit) 5 0) (done n) s next)) (λ n next. moreTexts n [] s next)
+    go (ok n next) = judge n next (leb n textsLimit)
+    go (refused m p) = refl
+
+module _ (s : List ℕ) (n k : ℕ) (counted : textCount s 0 ≡ ok n k) where
+  count-told : (2 ≤ length s) ⊎ (length s < 2) → (k ≡ 2) × (n ≤ textsLimit)
+  unfolding textCount here check done refuse _>>=_ _>>_ bind
+  count-told (inr h) = absurd (never-ok {number = 3} {place = length s} counted (rw (number-end s 0 2 h)))
+  count-told (inl h) = go _ (number-in s 0 2 h) (le-or-lt _ textsLimit)
+    where
+      go : (m : ℕ) → number 2 s 0 ≡ ok m 2 → (m ≤ textsLimit) ⊎ (textsLimit < m) → (k ≡ 2) × (n ≤ textsLimit)
+      go m e (inr f) = absurd (never-ok {number = 5} {place = 0} counted (rw (e, lt-leb m textsLimit f)))
+      go m e (inl f) =
+          let z : ok m 2 ≡ ok n k = sym (rw (e, le-leb m textsLimit f)) ∙ counted in
+          let v : m ≡ n = cc in
+          (cc, rw v at f)
+
+  count-next : k ≡ 2
+  count-next = count-told (le-or-lt _ _) .0
+
+  pub count-few : n ≤ textsLimit
+  count-few = count-told (le-or-lt _ _) .1
+
+-- a refusal leaves no kinds
+gathered-none : (s kinds : List ℕ) (n : ℕ) (r : Read) (m p : ℕ) → r ≡ Refused m p → length kinds ≡ 256 → r ≡ forget (texts s 0) → Gathered s kinds n r
+gathered-none s kinds n r m p g l e = record { answer = e; stored = λ k h. absurd (not-both h g); long = l }
+
+-- while texts are read: `i` of `n` stand before `k`
+pub record Going (s kinds : List ℕ) (n i k : ℕ) : Type 0 where
+  pub done-few : i ≤ n
+  pub few : n ≤ textsLimit
+  pub place : pastTexts s i 2 ≡ k
+  pub remain : texts s 0 ≡ moreTexts (n - i) (textsFrom s i 2) s k
+  pub kept : take i kinds ≡ map kindOf (textsFrom s i 2)
+  pub long : length kinds ≡ 256
+
+pub going-start : (s : List ℕ) (k n : ℕ) (kinds : List ℕ) → textCount s 0 ≡ ok n k → length kinds ≡ 256 → Going s kinds n 0 k
+unfolding bind pastTexts textsFrom
+going-start s k n kinds counted long = record {
+  done-few = omega arith;
+  few = count-few s n k counted;
+  place = sym (count-next s n k counted);
+  remain = texts-from s ∙ (let z : n - 0 ≡ n = omega arith in rw (counted, z) refl);
+  kept = refl;
+  long = long;
+}
+
+module _ (s kinds : List ℕ) (n i k : ℕ) (going : Going s kinds n i k) where
+  left : i < n → n - i ≡ suc (n - (i + 1))
+  left h = omega arith
+
+  remain-more : i < n → texts s 0 ≡ bind (text (textsFrom s i 2) s k) (λ x next. moreTexts (n - (i + 1)) (textsFrom s i 2 ++ (x ∷ [])) s next)
+  unfolding moreTexts _>>=_
+  remain-more h = going .remain ∙ rw (left h) refl
+
+  pub going-refused : i < n → (b : Read) (m p : ℕ) → b ≡ forget (text (textsFrom s i 2) s k) → b ≡ Refused m p → Gathered s kinds n b
+  going-refused h b m p e g = gathered-none s kinds n b m p g (going .long) (rw (remain-more h) (bind-refused _ _ b m p e g))
+
+  pub going-more : i < n → (b : Read) (next : ℕ) → b ≡ forget (text (textsFrom s i 2) s k) → b ≡ At next
+      → (v : ℕ) → v ≡ kindOf (take (next - (k + 1)) (drop (k + 1) s)) → Going s (set kinds i v) n (i + 1) next
+  unfolding bind
+  going-more h b next e g v f =
+      let l : i < length kinds = omega (arith, going .long, going .few) in
+      record {
+        done-few = omega arith;
+        few = going .few;
+        place = rw add-one (past-more s i 2 ∙ rw (going .place) (sym (text-next _ s k b next e g)));
+        remain = remain-more h ∙ rw (text-read _ s k b next e g, add-one, texts-more s i 2, going .place) refl;
+        kept = rw (add-one, take-suc-set kinds i v l, texts-more s i 2, map-append, going .kept, going .place, f, text-part s k next (text-next _ s k b next e g)) refl;
+        long = length-set kinds i v ∙ going .long;
+      }
+
+  pub going-end : n ≤ i → Gathered s kinds n (At k)
+  unfolding moreTexts done forget textsOf given kindsOf
+  going-end h =
+      let z : n - i ≡ 0 = omega arith in
+      let j : i ≡ n = omega (arith, going .done-few) in
+      let t : texts s 0 ≡ ok (textsFrom s i 2) k = going .remain ∙ rw z refl in
+      record { answer = rw t; stored = λ m g. rw (t, sym j) (going .kept); long = going .long }
+
+pub ruleset gathering = (going-start, going-refused, going-more, going-end)

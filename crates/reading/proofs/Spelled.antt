@@ -1,0 +1,221 @@
+-- How texts are spelled, and whether two are equal: a law for each way out of the code. Assumes nothing.
+use Prim.Native.Nat.{ℕ, suc, _<_, _≤_, _+_, _-_}
+use mathlib.Core.Path.{_≡_, refl, sym, ap, _∙_}
+use mathlib.Core.List.{List, [], _∷_}
+use mathlib.Core.Bool.{Bool, true, false, _&&_, _||_, or-false, and-false}
+use native.Mathlib.Omega.{arith}
+use native.Mathlib.Numerals.{add-one}
+use lib.ListN.{length, getD, take, drop, drop-of-length-le, length-drop}
+use lib.Seq.{drop-cons, take-all}
+use lib.Dec.{eqb}
+use borrow.Author.Tests.{le-leb, lt-leb, eq-eqb, ne-eqb}
+use Rattle.tree.specs.Texts.{letter, digit, every, digits, fraction, isName, isFloat, same}
+use Rattle.reading.specs.Section.{kindBy, kindOf}
+
+-- the part of a slice from a place on
+rest : (x : List ℕ) (i : ℕ) → take (length x - i) (drop i x) ≡ drop i x
+rest x i = take-all (length x - i) (drop i x) (omega (arith, length-drop i x))
+
+-- letters and digits
+module _ (c : ℕ) where
+  pub letter-line : c ≡ 95 → true ≡ letter c
+  unfolding letter
+  letter-line e = rw e
+
+  pub letter-below : c < 65 → false ≡ letter c
+  unfolding letter
+  letter-below h = rw (lt-leb 65 c h, lt-leb 97 c (omega arith), ne-eqb c 95 (λ e. omega arith))
+
+  pub letter-upper : 65 ≤ c → c < 91 → true ≡ letter c
+  unfolding letter
+  letter-upper g h = rw (le-leb 65 c g, le-leb c 90 (omega arith))
+
+  pub letter-between : (c ≡ 95 → ⊥) → 91 ≤ c → c < 97 → false ≡ letter c
+  unfolding letter
+  letter-between n g h = rw (lt-leb c 90 (omega arith), and-false, lt-leb 97 c h, ne-eqb c 95 n)
+
+  pub letter-lower : 97 ≤ c → c < 123 → true ≡ letter c
+  unfolding letter
+  letter-lower g h = rw (lt-leb c 90 (omega arith), and-false, le-leb 97 c g, le-leb c 122 (omega arith))
+
+  pub letter-above : 123 ≤ c → false ≡ letter c
+  unfolding letter
+  letter-above h = rw (lt-leb c 90 (omega arith), and-false, lt-leb c 122 (omega arith), and-false, ne-eqb c 95 (λ e. omega arith))
+
+  pub digit-below : c < 48 → false ≡ digit c
+  unfolding digit
+  digit-below h = rw (lt-leb 48 c h)
+
+  pub digit-is : 48 ≤ c → c < 58 → true ≡ digit c
+  unfolding digit
+  digit-is g h = rw (le-leb 48 c g, le-leb c 57 (omega arith))
+
+  pub digit-above : 58 ≤ c → false ≡ digit c
+  unfolding digit
+  digit-above h = rw (lt-leb c 57 (omega arith), and-false)
+
+  digit-no-point : digit c ≡ true → eqb c 46 ≡ false
+  unfolding digit
+  digit-no-point h = ne-eqb c 46 (λ e. go (rw e at h))
+    where
+      go : false ≡ true → ⊥
+      go e = let z : _≡_ {A = ℕ} 0 1 = cc in omega arith
+
+pub ruleset bytes = (letter-line, letter-below, letter-upper, letter-between, letter-lower, letter-above, digit-below, digit-is, digit-above)
+
+-- one of two tests
+module _ (c : ℕ) (l : Bool) where
+  pub allows-letter : l ≡ true → (r : Bool) → r ≡ letter c → r ≡ true → true ≡ ((l && letter c) || digit c)
+  allows-letter h r e g = rw (h, sym e, g)
+
+  pub allows-digit : (r : Bool) → r ≡ digit c → (l ≡ false) → r ≡ ((l && letter c) || digit c)
+  allows-digit r e h = rw (h) e
+
+  pub allows-other : (r q : Bool) → r ≡ digit c → q ≡ letter c → q ≡ false → r ≡ ((l && letter c) || digit c)
+  allows-other r q e f g = rw (sym f, g, and-false) e
+
+pub ruleset allowing = (allows-letter, allows-digit, allows-other)
+
+-- every byte: what remains from `i` on decides
+module _ (p : ℕ → Bool) (x : List ℕ) (i : ℕ) (inv : every p x ≡ every p (drop i x)) where
+  pub every-stop : i < length x → (r : Bool) → r ≡ p (getD x i 0) → r ≡ false → false ≡ every p x
+  unfolding every
+  every-stop h r e g = sym (inv ∙ rw (drop-cons x i 0 h, sym e, g) refl)
+
+  pub every-more : i < length x → (r : Bool) → r ≡ p (getD x i 0) → r ≡ true → every p x ≡ every p (drop (i + 1) x)
+  unfolding every
+  every-more h r e g = inv ∙ rw (drop-cons x i 0 h, sym e, g, add-one) refl
+
+  pub every-end : length x ≤ i → true ≡ every p x
+  unfolding every
+  every-end h = sym (inv ∙ rw (drop-of-length-le x h) refl)
+
+-- the same of a fraction
+module _ (x : List ℕ) (i : ℕ) (inv : fraction x ≡ fraction (drop i x)) where
+  pub fraction-more : i < length x → (r : Bool) → r ≡ digit (getD x i 0) → r ≡ true → fraction x ≡ fraction (drop (i + 1) x)
+  unfolding fraction
+  fraction-more h r e g = inv ∙ rw (drop-cons x i 0 h, digit-no-point (getD x i 0) (sym e ∙ g), sym e, g, add-one, or-false) refl
+
+  pub fraction-point : i < length x → (r : Bool) → r ≡ digit (getD x i 0) → r ≡ false → getD x i 0 ≡ 46 → (q : Bool) → q ≡ digits (take (length x - (i + 1)) (drop (i + 1) x)) → q ≡ fraction x
+  unfolding fraction
+  fraction-point h r e g c q f = f ∙ ap digits (rest x (i + 1)) ∙ sym (inv ∙ rw (drop-cons x i 0 h, sym e, g, c, add-one) refl)
+
+  pub fraction-stop : i < length x → (r : Bool) → r ≡ digit (getD x i 0) → r ≡ false → (getD x i 0 ≡ 46 → ⊥) → false ≡ fraction x
+  unfolding fraction
+  fraction-stop h r e g c = sym (inv ∙ rw (drop-cons x i 0 h, sym e, g, ne-eqb (getD x i 0) 46 c) refl)
+
+  pub fraction-end : length x ≤ i → false ≡ fraction x
+  unfolding fraction
+  fraction-end h = sym (inv ∙ rw (drop-of-length-le x h) refl)
+
+pub ruleset scanning = (every-stop, every-more, every-end, fraction-more, fraction-point, fraction-stop, fraction-end)
+
+-- the spelling of a whole text, by its first byte
+module _ (x : List ℕ) where
+  pub digits-none : length x ≡ 0 → false ≡ digits x
+  unfolding digits
+  digits-none h = go x h
+    where
+      go : (x : List ℕ) → length x ≡ 0 → false ≡ digits x
+      go [] h = refl
+      go (c ∷ cs) h = absurd (omega arith)
+
+  pub digits-all : (length x ≡ 0 → ⊥) → (r : Bool) → r ≡ every (λ c. (false && letter c) || digit c) x → r ≡ digits x
+  unfolding digits every
+  digits-all h r e = go x h e
+    where
+      go : (x : List ℕ) → (length x ≡ 0 → ⊥) → r ≡ every (λ c. digit c) x → r ≡ digits x
+      go [] h e = absurd (h refl)
+      go (c ∷ cs) h e = e
+
+  pub name-none : length x ≡ 0 → false ≡ isName x
+  unfolding isName
+  name-none h = go x h
+    where
+      go : (x : List ℕ) → length x ≡ 0 → false ≡ isName x
+      go [] h = refl
+      go (c ∷ cs) h = absurd (omega arith)
+
+  pub name-first : (length x ≡ 0 → ⊥) → (r : Bool) → r ≡ letter (getD x 0 0) → r ≡ true → (q : Bool) → q ≡ every (λ c. (true && letter c) || digit c) (take (length x - 1) (drop 1 x)) → q ≡ isName x
+  unfolding isName
+  name-first h r e g q f = go x h (sym e ∙ g) (rw (rest x 1) at f)
+    where
+      go : (x : List ℕ) → (length x ≡ 0 → ⊥) → letter (getD x 0 0) ≡ true → q ≡ every (λ c. letter c || digit c) (drop 1 x) → q ≡ isName x
+      go [] h l f = absurd (h refl)
+      go (c ∷ cs) h l f = rw l f
+
+  pub name-other : (length x ≡ 0 → ⊥) → (r : Bool) → r ≡ letter (getD x 0 0) → r ≡ false → false ≡ isName x
+  unfolding isName
+  name-other h r e g = go x h (sym e ∙ g)
+    where
+      go : (x : List ℕ) → (length x ≡ 0 → ⊥) → letter (getD x 0 0) ≡ false → false ≡ isName x
+      go [] h l = absurd (h refl)
+      go (c ∷ cs) h l = rw l
+
+  pub float-none : length x ≡ 0 → false ≡ isFloat x
+  unfolding isFloat
+  float-none h = go x h
+    where
+      go : (x : List ℕ) → length x ≡ 0 → false ≡ isFloat x
+      go [] h = refl
+      go (c ∷ cs) h = absurd (omega arith)
+
+  pub float-first : (length x ≡ 0 → ⊥) → (r : Bool) → r ≡ digit (getD x 0 0) → r ≡ true → (q : Bool) → q ≡ fraction (take (length x - 1) (drop 1 x)) → q ≡ isFloat x
+  unfolding isFloat
+  float-first h r e g q f = go x h (sym e ∙ g) (rw (rest x 1) at f)
+    where
+      go : (x : List ℕ) → (length x ≡ 0 → ⊥) → digit (getD x 0 0) ≡ true → q ≡ fraction (drop 1 x) → q ≡ isFloat x
+      go [] h l f = absurd (h refl)
+      go (c ∷ cs) h l f = rw l f
+
+  pub float-other : (length x ≡ 0 → ⊥) → (r : Bool) → r ≡ digit (getD x 0 0) → r ≡ false → false ≡ isFloat x
+  unfolding isFloat
+  float-other h r e g = go x h (sym e ∙ g)
+    where
+      go : (x : List ℕ) → (length x ≡ 0 → ⊥) → digit (getD x 0 0) ≡ false → false ≡ isFloat x
+      go [] h l = absurd (h refl)
+      go (c ∷ cs) h l = rw l
+
+  -- the kind
+  pub kind-name : (r : Bool) → r ≡ isName x → r ≡ true → 1 ≡ kindOf x
+  unfolding kindOf kindBy
+  kind-name r e g = rw (sym e, g)
+
+  pub kind-float : (r q : Bool) → r ≡ isName x → r ≡ false → q ≡ isFloat x → q ≡ true → 2 ≡ kindOf x
+  unfolding kindOf kindBy
+  kind-float r q e g f h = rw (sym e, g, sym f, h)
+
+  pub kind-neither : (r q : Bool) → r ≡ isName x → r ≡ false → q ≡ isFloat x → q ≡ false → 0 ≡ kindOf x
+  unfolding kindOf kindBy
+  kind-neither r q e g f h = rw (sym e, g, sym f, h)
+
+pub ruleset spelled = (digits-none, digits-all, name-none, name-first, name-other, float-none, float-first, float-other, kind-name, kind-float, kind-neither)
+
+-- two texts byte by byte
+pub same-lengths : (x y : List ℕ) → (length x ≡ length y → ⊥) → false ≡ same x y
+unfolding same
+same-lengths [] [] h = absurd (h refl)
+same-lengths [] (d ∷ ds) h = refl
+same-lengths (c ∷ cs) [] h = refl
+same-lengths (c ∷ cs) (d ∷ ds) h = rw (sym (same-lengths cs ds (λ e. h (ap suc e))), and-false)
+
+module _ (x y : List ℕ) (i : ℕ) (e : length x ≡ length y) (inv : same x y ≡ same (drop i x) (drop i y)) where
+  pub same-more : i < length x → getD x i 0 ≡ getD y i 0 → same x y ≡ same (drop (i + 1) x) (drop (i + 1) y)
+  unfolding same
+  same-more h g =
+      let k : i < length y = omega arith in
+      inv ∙ rw (drop-cons x i 0 h, drop-cons y i 0 k, eq-eqb (getD x i 0) (getD y i 0) g, add-one) refl
+
+  pub same-stop : i < length x → (getD x i 0 ≡ getD y i 0 → ⊥) → false ≡ same x y
+  unfolding same
+  same-stop h g =
+      let k : i < length y = omega arith in
+      sym (inv ∙ rw (drop-cons x i 0 h, drop-cons y i 0 k, ne-eqb (getD x i 0) (getD y i 0) g) refl)
+
+  pub same-end : length x ≤ i → true ≡ same x y
+  unfolding same
+  same-end h =
+      let k : length y ≤ i = omega arith in
+      sym (inv ∙ rw (drop-of-length-le x h, drop-of-length-le y k) refl)
+
+pub ruleset comparing = (same-lengths, same-more, same-stop, same-end)

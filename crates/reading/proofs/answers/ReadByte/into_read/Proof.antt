@@ -1,0 +1,13 @@
+-- `reading::answers::ReadByte::into_read` meets its contract. Assumes nothing.
+use Rattle.reading.proofs.Taken.{byte-next, byte-no}
+use borrow.Author.Needs.{needs}
+use Rattle.reading.proofs.answers.ReadByte.into_read.Statement.{statement}
+use Rattle.reading.proofs.answers.ReadByte.into_read.Tie as tie
+
+pub into-read-spec : {M : Type 1} → statement M
+into-read-spec =
+    tie.close (tie.spec
+    (λ c. search needs)  -- enum-known-self
+    (λ c. search needs)  -- enum-known-self-2
+    (λ c. search (byte-next, byte-no))  -- returns
+    (λ c. search (byte-next, byte-no)))  -- returns-2

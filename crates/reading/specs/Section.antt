@@ -1,0 +1,60 @@
+-- The text section as the code goes through it, by its length bytes, and the kind of each text.
+use mathlib.Core.Path.{_≡_}
+use Prim.Native.Nat.{ℕ, zero, suc, _+_}
+use mathlib.Core.List.{List, [], _∷_, map}
+use mathlib.Core.Bool.{Bool, true, false}
+use lib.Dec.{eqb, leb}
+use lib.ListN.{length, getD, take, drop}
+use Rattle.ast.specs.Tree.{Text}
+use Rattle.tree.specs.Limits.{textsLimit}
+use Rattle.tree.specs.Ans.{Reader, _>>=_, _>>_, done, here, check}
+use Rattle.tree.specs.Read.{u16}
+use Rattle.tree.specs.Texts.{isName, isFloat, texts}
+use Rattle.tree.specs.Decode.{textsOf}
+use Rattle.reading.specs.declared.answers.Read.{Read}
+use Rattle.reading.specs.Answers.{forget}
+
+-- the text whose length byte is at the place, and the place past it
+abbrev pub textAt : List ℕ → ℕ → Text
+textAt s at = take (getD s at 0) (drop (at + 1) s)
+
+abbrev pub past : List ℕ → ℕ → ℕ
+past s at = at + 1 + getD s at 0
+
+-- so many texts from a place on, and the place past them
+unfoldable pub textsFrom : List ℕ → ℕ → ℕ → List Text
+textsFrom s zero at = []
+textsFrom s (suc n) at = textAt s at ∷ textsFrom s n (past s at)
+
+unfoldable pub pastTexts : List ℕ → ℕ → ℕ → ℕ
+pastTexts s zero at = at
+pastTexts s (suc n) at = pastTexts s n (past s at)
+
+-- 1 a name, 2 a float's spelling, 0 neither
+unfoldable pub kindBy : Bool → Bool → ℕ
+kindBy true float = 1
+kindBy false true = 2
+kindBy false false = 0
+
+unfoldable pub kindOf : Text → ℕ
+kindOf x = kindBy (isName x) (isFloat x)
+
+unfoldable pub ofKind : ℕ → Text → Bool
+ofKind kind x = eqb (kindOf x) kind
+
+unfoldable pub kindsOf : List ℕ → List ℕ
+kindsOf s = map kindOf (textsOf s)
+
+-- the count of the texts, as `texts` begins
+unfoldable pub textCount : Reader ℕ
+textCount = do
+  at ← here
+  n ← u16
+  check (leb n textsLimit) 5 at
+  done n
+
+-- what reading `n` texts answers, and the kinds that it leaves in the first places
+pub record Gathered (s kinds : List ℕ) (n : ℕ) (r : Read) : Type 0 where
+  pub answer : r ≡ forget (texts s 0)
+  pub stored : (k : ℕ) → r ≡ Read.At k → take n kinds ≡ kindsOf s
+  pub long : length kinds ≡ 256

@@ -1,0 +1,140 @@
+// How names and float literals are spelled.
+ghost use mathlib.Core.Path.{_≡_};
+ghost use mathlib.Core.Bool.{_&&_, _||_};
+ghost use Rattle.tree.specs.Texts.{letter, digit, every, digits, fraction, isName, isFloat, same};
+ghost use Rattle.reading.specs.Section.{kindOf};
+
+pub const NEITHER: u8 = 0;
+
+pub const NAME: u8 = 1;
+
+pub const FLOAT: u8 = 2;
+
+const POINT: u8 = 46;
+
+fn is_letter(c: u8) -> bool
+    ensures { λ r. ⌜ r ≡ letter c ⌝ }
+{
+    match c {
+        65..=90 => true,
+        97..=122 => true,
+        95 => true,
+        _ => false,
+    }
+}
+
+fn is_digit(c: u8) -> bool
+    ensures { λ r. ⌜ r ≡ digit c ⌝ }
+{
+    match c {
+        48..=57 => true,
+        _ => false,
+    }
+}
+
+// Digits alone; with `letters`, letters and underscores too.
+fn all_of(x: &[u8], letters: bool) -> bool
+    ensures { λ r. ⌜ r ≡ every (λ c. (letters && letter c) || digit c) (now (x .entry)) ⌝ }
+{
+    let mut i = 0;
+    while i < x.len() {
+        if allows(letters, x[i]) {
+            i += 1;
+        } else {
+            return false;
+        }
+    }
+    true
+}
+
+fn allows(letters: bool, c: u8) -> bool
+    ensures { λ r. ⌜ r ≡ ((letters && letter c) || digit c) ⌝ }
+{
+    if letters {
+        if is_letter(c) {
+            return true;
+        }
+        return is_digit(c);
+    }
+    is_digit(c)
+}
+
+fn is_digits(x: &[u8]) -> bool
+    ensures { λ r. ⌜ r ≡ digits (now (x .entry)) ⌝ }
+{
+    if x.len() == 0 {
+        return false;
+    }
+    all_of(x, false)
+}
+
+fn is_name(x: &[u8]) -> bool
+    ensures { λ r. ⌜ r ≡ isName (now (x .entry)) ⌝ }
+{
+    if x.len() == 0 {
+        return false;
+    }
+    if is_letter(x[0]) {
+        return all_of(&x[1..], true);
+    }
+    false
+}
+
+// More digits, a point, one or more digits.
+fn is_fraction(x: &[u8]) -> bool
+    ensures { λ r. ⌜ r ≡ fraction (now (x .entry)) ⌝ }
+{
+    let mut i = 0;
+    while i < x.len() {
+        if is_digit(x[i]) {
+            i += 1;
+        } else {
+            if x[i] == POINT {
+                return is_digits(&x[i + 1..]);
+            }
+            return false;
+        }
+    }
+    false
+}
+
+fn is_float(x: &[u8]) -> bool
+    ensures { λ r. ⌜ r ≡ isFloat (now (x .entry)) ⌝ }
+{
+    if x.len() == 0 {
+        return false;
+    }
+    if is_digit(x[0]) {
+        return is_fraction(&x[1..]);
+    }
+    false
+}
+
+pub fn kind(x: &[u8]) -> u8
+    ensures { λ r. ⌜ r ≡ kindOf (now (x .entry)) ⌝ }
+{
+    if is_name(x) {
+        return NAME;
+    }
+    if is_float(x) {
+        return FLOAT;
+    }
+    NEITHER
+}
+
+pub fn is_same(x: &[u8], y: &[u8]) -> bool
+    ensures { λ r. ⌜ r ≡ same (now (x .entry)) (now (y .entry)) ⌝ }
+{
+    if x.len() != y.len() {
+        return false;
+    }
+    let mut i = 0;
+    while i < x.len() {
+        if x[i] == y[i] {
+            i += 1;
+        } else {
+            return false;
+        }
+    }
+    true
+}

@@ -1,0 +1,189 @@
+// The texts of the file, and the numbers by which the tree names them.
+use crate::answers::Read;
+use crate::answers::ReadByte;
+use crate::answers::ReadNumber;
+use crate::answers::ReadText;
+use crate::numbers::bytes_from;
+use crate::numbers::read_byte;
+use crate::numbers::read_u16;
+use crate::numbers::size;
+use crate::numbers::wide;
+use crate::spelling;
+ghost use mathlib.Core.Path.{_≡_};
+ghost use Prim.Native.Nat.{_≤_, _-_};
+ghost use lib.ListN.{length, take, drop};
+ghost use Rattle.tree.specs.Texts.{allowed, among, text, isName, isFloat, isPath};
+ghost use Rattle.tree.specs.Exprs.{textNumber};
+ghost use Rattle.reading.specs.Answers.{forget, gaveNumber, gaveText};
+ghost use Rattle.reading.specs.Section.{textAt, past, textsFrom, pastTexts, textCount, ofKind, kindsOf, Gathered};
+ghost use Rattle.tree.specs.Ans.{ok};
+ghost use Rattle.tree.specs.Decode.{textsOf};
+
+pub const TEXTS_LIMIT: usize = 256;
+
+const TEXT_LIMIT: u8 = 64;
+
+// The bytes of texts.
+const FIRST_BYTE: u8 = 33;
+
+const LAST_BYTE: u8 = 126;
+
+// The bytes of a text, from `at` to `end`.
+fn read_allowed(s: &[u8], at: usize, end: usize) -> Read
+    requires { ⌜ (at ≤ end) × (end ≤ length (now s)) ⌝ }
+    ensures { λ r. ⌜ r ≡ forget (allowed (take (end - at) (drop at (now (s .entry)))) at (now (s .entry)) end) ⌝ }
+{
+    let mut k = at;
+    while k < end {
+        let b = s[k];
+        if b < FIRST_BYTE {
+            return Read::Refused(4, k);
+        }
+        if LAST_BYTE < b {
+            return Read::Refused(4, k);
+        }
+        k += 1;
+    }
+    Read::At(end)
+}
+
+// The place past the text whose length byte is at `at`.
+fn past_text(s: &[u8], at: usize) -> usize
+    requires { ⌜ past (now s) at ≤ length (now s) ⌝ }
+    ensures { λ r. ⌜ r ≡ past (now (s .entry)) at ⌝ }
+{
+    at + 1 + wide(s[at])
+}
+
+fn text_at(s: &[u8], at: usize) -> &[u8]
+    requires { ⌜ past (now s) at ≤ length (now s) ⌝ }
+    ensures { λ r. ⌜ now r ≡ textAt (now (s .entry)) at ⌝ }
+{
+    let end = past_text(s, at);
+    &s[at + 1..end]
+}
+
+// Whether a text equals one of the first `n`.
+fn is_repeated(s: &[u8], x: &[u8], n: usize) -> bool
+    requires { ⌜ pastTexts (now s) n 2 ≤ length (now s) ⌝ }
+    ensures { λ r. ⌜ r ≡ among (now (x .entry)) (textsFrom (now (s .entry)) n 2) ⌝ }
+{
+    let mut k = 2;
+    let mut i = n;
+    while 0 < i {
+        if spelling::is_same(x, text_at(s, k)) {
+            return true;
+        }
+        k = past_text(s, k);
+        i -= 1;
+    }
+    false
+}
+
+// A text behind `n` others.
+fn read_text(s: &[u8], at: usize, n: usize) -> Read
+    requires { ⌜ pastTexts (now s) n 2 ≡ at ⌝ }
+    ensures { λ r. ⌜ r ≡ forget (text (textsFrom (now (s .entry)) n 2) (now (s .entry)) at) ⌝ }
+{
+    let a = read_byte(s, at);
+    let ReadByte::At(length, start) = a else {
+        return a.into_read();
+    };
+    if length == 0 {
+        return Read::Refused(4, at);
+    }
+    if TEXT_LIMIT < length {
+        return Read::Refused(4, at);
+    }
+    let width = wide(length);
+    if bytes_from(s, start) < width {
+        return Read::Refused(3, s.len());
+    }
+    let end = start + width;
+    let b = read_allowed(s, start, end);
+    let Read::At(k) = b else {
+        return b;
+    };
+    if is_repeated(s, &s[start..end], n) {
+        return Read::Refused(4, at);
+    }
+    Read::At(k)
+}
+
+// How many texts there are.
+pub fn read_text_count(s: &[u8]) -> ReadNumber
+    ensures { λ r. ⌜ r ≡ gaveNumber (textCount (now (s .entry)) 0) ⌝ }
+{
+    let a = read_u16(s, 0);
+    let ReadNumber::At(n, k) = a else {
+        return a;
+    };
+    if TEXTS_LIMIT < size(n) {
+        return ReadNumber::Refused(5, 0);
+    }
+    ReadNumber::At(n, k)
+}
+
+// The `n` texts from `first` on, behind their count. The kind of each is stored.
+pub fn read_texts(s: &[u8], first: usize, n: usize, kinds: &mut [u8; TEXTS_LIMIT]) -> Read
+    requires { ⌜ textCount (now s) 0 ≡ ok n first ⌝ }
+    requires { ⌜ length (now kinds) ≡ 256 ⌝ }
+    ensures { λ r. ⌜ Gathered (now (s .entry)) (now (kinds .exit)) n r ⌝ }
+{
+    let mut k = first;
+    let mut i = 0;
+    while i < n {
+        let a = read_text(s, k, i);
+        let Read::At(next) = a else {
+            return a;
+        };
+        kinds[i] = spelling::kind(&s[k + 1..next]);
+        k = next;
+        i += 1;
+    }
+    Read::At(k)
+}
+
+// A text number: below the number of texts.
+pub fn read_path(s: &[u8], kinds: &[u8], at: usize) -> ReadText
+    requires { ⌜ now kinds ≡ kindsOf (now s) ⌝ }
+    ensures { λ r. ⌜ r ≡ gaveText (textNumber (textsOf (now (s .entry))) isPath (now (s .entry)) at) ⌝ }
+{
+    let a = read_u16(s, at).into_text();
+    let ReadText::At(n, k) = a else {
+        return a;
+    };
+    if n < kinds.len() {
+        return ReadText::At(n, k);
+    }
+    ReadText::Refused(4, at)
+}
+
+// A text number whose text is of the kind.
+fn read_spelled(s: &[u8], kinds: &[u8], at: usize, kind: u8) -> ReadText
+    requires { ⌜ now kinds ≡ kindsOf (now s) ⌝ }
+    ensures { λ r. ⌜ r ≡ gaveText (textNumber (textsOf (now (s .entry))) (ofKind kind) (now (s .entry)) at) ⌝ }
+{
+    let a = read_path(s, kinds, at);
+    let ReadText::At(n, k) = a else {
+        return a;
+    };
+    if kinds[n] == kind {
+        return ReadText::At(n, k);
+    }
+    ReadText::Refused(4, at)
+}
+
+pub fn read_name(s: &[u8], kinds: &[u8], at: usize) -> ReadText
+    requires { ⌜ now kinds ≡ kindsOf (now s) ⌝ }
+    ensures { λ r. ⌜ r ≡ gaveText (textNumber (textsOf (now (s .entry))) isName (now (s .entry)) at) ⌝ }
+{
+    read_spelled(s, kinds, at, spelling::NAME)
+}
+
+pub fn read_float(s: &[u8], kinds: &[u8], at: usize) -> ReadText
+    requires { ⌜ now kinds ≡ kindsOf (now s) ⌝ }
+    ensures { λ r. ⌜ r ≡ gaveText (textNumber (textsOf (now (s .entry))) isFloat (now (s .entry)) at) ⌝ }
+{
+    read_spelled(s, kinds, at, spelling::FLOAT)
+}
