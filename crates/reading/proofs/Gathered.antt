@@ -1,4 +1,4 @@
--- All texts, and their kinds as the code stores them: what holds while they are read, and at each way out. Assumes nothing.
+-- All texts, and their kinds and checksums as the code stores them: what holds while they are read, and at each way out. Assumes nothing.
 use Prim.Native.Nat.{ℕ, zero, suc, _<_, _≤_, _+_, _-_}
 use mathlib.Core.Path.{_≡_, refl, sym, ap, _∙_}
 use mathlib.Core.List.{List, [], _∷_, _++_, map, map-append}
@@ -6,7 +6,7 @@ use mathlib.Core.Bool.{Bool, true, false, not}
 use mathlib.Core.Logic.{_⊎_, inl, inr}
 use native.Mathlib.Omega.{arith}
 use native.Mathlib.Numerals.{add-one}
-use lib.ListN.{length, getD, take, drop, set, length-set}
+use lib.ListN.{length, getD, take, drop, set, length-set, length-take}
 use lib.Seq.{take-suc-set}
 use lib.Dec.{leb}
 use borrow.Author.Tests.{le-leb, lt-leb}
@@ -17,7 +17,7 @@ use Rattle.tree.specs.Read.{number}
 use Rattle.tree.specs.Texts.{allowed, among, text, moreTexts, texts, between}
 use Rattle.tree.proofs.Steps.{byte-in, byte-end, number-in, number-end}
 use Rattle.reading.specs.Answers.{forget, gaveNumber}
-use Rattle.reading.specs.Section.{textAt, past, textsFrom, pastTexts, textCount, kindOf, kindsOf, Gathered}
+use Rattle.reading.specs.Section.{textAt, past, textsFrom, pastTexts, textCount, kindOf, kindsOf, checksum, Gathered}
 use Rattle.tree.specs.Decode.{textsOf}
 use Rattle.reading.specs.declared.answers.Read.{Read}
 use Rattle.reading.specs.declared.answers.Read.the-variants.{At, Refused}
@@ -144,26 +144,37 @@ gathered-none : (s kinds : List ℕ) (n : ℕ) (r : Read) (m p : ℕ) → r ≡ 
 gathered-none s kinds n r m p g l e = record { answer = e; stored = λ k h. absurd (not-both h g); long = l }
 
 -- while texts are read: `i` of `n` stand before `k`
-pub record Going (s kinds : List ℕ) (n i k : ℕ) : Type 0 where
+pub record Going (s kinds sums : List ℕ) (n i k : ℕ) : Type 0 where
   pub done-few : i ≤ n
   pub few : n ≤ textsLimit
   pub place : pastTexts s i 2 ≡ k
   pub remain : texts s 0 ≡ moreTexts (n - i) (textsFrom s i 2) s k
   pub kept : take i kinds ≡ map kindOf (textsFrom s i 2)
   pub long : length kinds ≡ 256
+  pub summed : take i sums ≡ map checksum (textsFrom s i 2)
+  pub room : length sums ≡ 256
 
-pub going-start : (s : List ℕ) (k n : ℕ) (kinds : List ℕ) → textCount s 0 ≡ ok n k → length kinds ≡ 256 → Going s kinds n 0 k
+pub going-start : (s : List ℕ) (k n : ℕ) (kinds sums : List ℕ) → textCount s 0 ≡ ok n k → length kinds ≡ 256 → length sums ≡ 256 → Going s kinds sums n 0 k
 unfolding bind pastTexts textsFrom
-going-start s k n kinds counted long = record {
+going-start s k n kinds sums counted long room = record {
   done-few = omega arith;
   few = count-few s n k counted;
   place = sym (count-next s n k counted);
   remain = texts-from s ∙ (let z : n - 0 ≡ n = omega arith in rw (counted, z) refl);
   kept = refl;
   long = long;
+  summed = refl;
+  room = room;
 }
 
-module _ (s kinds : List ℕ) (n i k : ℕ) (going : Going s kinds n i k) where
+module _ (s kinds sums : List ℕ) (n i k : ℕ) (going : Going s kinds sums n i k) where
+  -- the checksums of the earlier texts
+  pub going-few : i ≤ 256
+  going-few = omega (arith, going .few, going .done-few)
+
+  pub going-part : i ≡ length (take i sums)
+  going-part = omega (arith, going-few, going .room, length-take i sums)
+
   left : i < n → n - i ≡ suc (n - (i + 1))
   left h = omega arith
 
@@ -175,10 +186,11 @@ module _ (s kinds : List ℕ) (n i k : ℕ) (going : Going s kinds n i k) where
   going-refused h b m p e g = gathered-none s kinds n b m p g (going .long) (rw (remain-more h) (bind-refused _ _ b m p e g))
 
   pub going-more : i < n → (b : Read) (next : ℕ) → b ≡ forget (text (textsFrom s i 2) s k) → b ≡ At next
-      → (v : ℕ) → v ≡ kindOf (take (next - (k + 1)) (drop (k + 1) s)) → Going s (set kinds i v) n (i + 1) next
+      → (v w : ℕ) → v ≡ kindOf (take (next - (k + 1)) (drop (k + 1) s)) → w ≡ checksum (take (next - (k + 1)) (drop (k + 1) s)) → Going s (set kinds i v) (set sums i w) n (i + 1) next
   unfolding bind
-  going-more h b next e g v f =
+  going-more h b next e g v w f u =
       let l : i < length kinds = omega (arith, going .long, going .few) in
+      let m : i < length sums = omega (arith, going .room, going .few) in
       record {
         done-few = omega arith;
         few = going .few;
@@ -186,6 +198,8 @@ module _ (s kinds : List ℕ) (n i k : ℕ) (going : Going s kinds n i k) where
         remain = remain-more h ∙ rw (text-read _ s k b next e g, add-one, texts-more s i 2, going .place) refl;
         kept = rw (add-one, take-suc-set kinds i v l, texts-more s i 2, map-append, going .kept, going .place, f, text-part s k next (text-next _ s k b next e g)) refl;
         long = length-set kinds i v ∙ going .long;
+        summed = rw (add-one, take-suc-set sums i w m, texts-more s i 2, map-append, going .summed, going .place, u, text-part s k next (text-next _ s k b next e g)) refl;
+        room = length-set sums i w ∙ going .room;
       }
 
   pub going-end : n ≤ i → Gathered s kinds n (At k)
@@ -196,4 +210,4 @@ module _ (s kinds : List ℕ) (n i k : ℕ) (going : Going s kinds n i k) where
       let t : texts s 0 ≡ ok (textsFrom s i 2) k = going .remain ∙ rw z refl in
       record { answer = rw t; stored = λ m g. rw (t, sym j) (going .kept); long = going .long }
 
-pub ruleset gathering = (going-start, going-refused, going-more, going-end)
+pub ruleset gathering = (going-start, going-few, going-part, going-refused, going-more, going-end)

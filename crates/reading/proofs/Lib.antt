@@ -4,5 +4,6 @@ pub mod Runs
 pub mod Values
 pub mod Spelled
 pub mod Section
+pub mod Repeated
 pub mod Named
 pub mod Gathered

@@ -43,49 +43,6 @@ module _ (s : List ℕ) (k e : ℕ) (x : Read) (inv : x ≡ forget (allowed (tak
 
 pub ruleset allowing-bytes = (allowed-low, allowed-high, allowed-more, allowed-end)
 
--- whether a text is among others: what remains from `k` on decides
-past-grows : (s : List ℕ) (n k : ℕ) → k ≤ pastTexts s n k
-unfolding pastTexts
-past-grows s zero k = omega arith
-past-grows s (suc n) k = omega (arith, past-grows s n (past s k))
-
-module _ (s : List ℕ) (i k : ℕ) (h : 0 < i) where
-  past-more : pastTexts s (i - 1) (past s k) ≡ pastTexts s i k
-  unfolding pastTexts
-  past-more = go i h
-    where
-      go : (i : ℕ) → 0 < i → pastTexts s (i - 1) (past s k) ≡ pastTexts s i k
-      go zero h = absurd (omega arith)
-      go (suc i) h = rw sub-one refl
-
-  pub past-next : (next : ℕ) → pastTexts s i k ≤ length s → next ≡ past s k → pastTexts s (i - 1) next ≤ length s
-  past-next next l f = rw (f, past-more) l
-
-  pub past-within : pastTexts s i k ≤ length s → past s k ≤ length s
-  past-within l = omega (arith, past-more, past-grows s (i - 1) (past s k))
-
-  module _ (x b : Text) (y r : Bool) (inv : y ≡ among x (textsFrom s i k)) (g : r ≡ same x b) (f : b ≡ textAt s k) where
-    among-step : y ≡ (r || among x (textsFrom s (i - 1) (past s k)))
-    unfolding among textsFrom
-    among-step = rw (g, f) (go i h inv)
-      where
-        go : (i : ℕ) → 0 < i → y ≡ among x (textsFrom s i k) → y ≡ (same x (textAt s k) || among x (textsFrom s (i - 1) (past s k)))
-        go zero h f = absurd (omega arith)
-        go (suc i) h f = rw sub-one f
-
-    pub among-here : r ≡ true → true ≡ y
-    among-here t = sym (among-step ∙ rw t refl)
-
-    pub among-more : r ≡ false → (next : ℕ) → next ≡ past s k → y ≡ among x (textsFrom s (i - 1) next)
-    among-more t next n = rw n (among-step ∙ rw t refl)
-
-pub among-none : (s : List ℕ) (i k : ℕ) (x : Text) (y : Bool) → y ≡ among x (textsFrom s i k) → i ≤ 0 → false ≡ y
-unfolding among textsFrom
-among-none s zero k x y e h = sym e
-among-none s (suc i) k x y e h = absurd (omega arith)
-
-pub ruleset repeating = (past-next, past-within, among-here, among-more, among-none)
-
 pub text-part : (s : List ℕ) (at end : ℕ) → end ≡ past s at → take (end - (at + 1)) (drop (at + 1) s) ≡ textAt s at
 text-part s at end e = let n : end - (at + 1) ≡ getD s at 0 = omega arith in rw n
 

@@ -1,16 +1,17 @@
 -- How texts are spelled, and whether two are equal: a law for each way out of the code. Assumes nothing.
-use Prim.Native.Nat.{ℕ, suc, _<_, _≤_, _+_, _-_}
+use Prim.Native.Nat.{ℕ, suc, _<_, _≤_, _+_, _-_, _*_, _%_, _^_}
 use mathlib.Core.Path.{_≡_, refl, sym, ap, _∙_}
 use mathlib.Core.List.{List, [], _∷_}
-use mathlib.Core.Bool.{Bool, true, false, _&&_, _||_, or-false, and-false}
+use mathlib.Core.Bool.{Bool, true, false, _&&_, _||_, or-false, and-false, and-true}
 use native.Mathlib.Omega.{arith}
+use native.Mathlib.Nat.{mod-lt}
 use native.Mathlib.Numerals.{add-one}
 use lib.ListN.{length, getD, take, drop, drop-of-length-le, length-drop}
 use lib.Seq.{drop-cons, take-all}
 use lib.Dec.{eqb}
 use borrow.Author.Tests.{le-leb, lt-leb, eq-eqb, ne-eqb}
 use Rattle.tree.specs.Texts.{letter, digit, every, digits, fraction, isName, isFloat, same}
-use Rattle.reading.specs.Section.{kindBy, kindOf}
+use Rattle.reading.specs.Section.{kindBy, kindOf, sumFrom, checksum}
 
 -- the part of a slice from a place on
 rest : (x : List ℕ) (i : ℕ) → take (length x - i) (drop i x) ≡ drop i x
@@ -191,6 +192,29 @@ module _ (x : List ℕ) where
 
 pub ruleset spelled = (digits-none, digits-all, name-none, name-first, name-other, float-none, float-first, float-other, kind-name, kind-float, kind-neither)
 
+-- the checksum: what remains from `i` on decides
+pub record Summing (x : List ℕ) (h i : ℕ) : Type 0 where
+  pub low : h < 2 ^ 56
+  pub remain : checksum x ≡ sumFrom h (drop i x)
+
+pub summing-start : (x : List ℕ) → Summing x 0 0
+unfolding checksum
+summing-start x = record { low = omega arith; remain = refl }
+
+module _ (x : List ℕ) (h i : ℕ) (summing : Summing x h i) where
+  pub summing-more : i < length x → (b : ℕ) → b ≡ getD x i 0 → Summing x ((h * 251 + b) % 2 ^ 56) (i + 1)
+  unfolding sumFrom
+  summing-more l b e = record {
+    low = mod-lt (h * 251 + b) (omega arith);
+    remain = summing .remain ∙ rw (drop-cons x i 0 l, add-one, e) refl;
+  }
+
+  pub summing-end : length x ≤ i → h ≡ checksum x
+  unfolding sumFrom
+  summing-end l = sym (summing .remain ∙ rw (drop-of-length-le x l) refl)
+
+pub ruleset summed = (summing-start, summing-more, summing-end)
+
 -- two texts byte by byte
 pub same-lengths : (x y : List ℕ) → (length x ≡ length y → ⊥) → false ≡ same x y
 unfolding same
@@ -199,23 +223,23 @@ same-lengths [] (d ∷ ds) h = refl
 same-lengths (c ∷ cs) [] h = refl
 same-lengths (c ∷ cs) (d ∷ ds) h = rw (sym (same-lengths cs ds (λ e. h (ap suc e))), and-false)
 
-module _ (x y : List ℕ) (i : ℕ) (e : length x ≡ length y) (inv : same x y ≡ same (drop i x) (drop i y)) where
-  pub same-more : i < length x → getD x i 0 ≡ getD y i 0 → same x y ≡ same (drop (i + 1) x) (drop (i + 1) y)
+module _ (x y : List ℕ) (alike : Bool) (i : ℕ) (e : length x ≡ length y) (inv : same x y ≡ (alike && same (drop i x) (drop i y))) where
+  pub same-more : i < length x → getD x i 0 ≡ getD y i 0 → (a : Bool) → a ≡ alike → same x y ≡ (a && same (drop (i + 1) x) (drop (i + 1) y))
   unfolding same
-  same-more h g =
+  same-more h g a f =
       let k : i < length y = omega arith in
-      inv ∙ rw (drop-cons x i 0 h, drop-cons y i 0 k, eq-eqb (getD x i 0) (getD y i 0) g, add-one) refl
+      inv ∙ rw (drop-cons x i 0 h, drop-cons y i 0 k, eq-eqb (getD x i 0) (getD y i 0) g, add-one, f) refl
 
-  pub same-stop : i < length x → (getD x i 0 ≡ getD y i 0 → ⊥) → false ≡ same x y
+  pub same-stop : i < length x → (getD x i 0 ≡ getD y i 0 → ⊥) → (a : Bool) → a ≡ false → same x y ≡ (a && same (drop (i + 1) x) (drop (i + 1) y))
   unfolding same
-  same-stop h g =
+  same-stop h g a f =
       let k : i < length y = omega arith in
-      sym (inv ∙ rw (drop-cons x i 0 h, drop-cons y i 0 k, ne-eqb (getD x i 0) (getD y i 0) g) refl)
+      inv ∙ rw (drop-cons x i 0 h, drop-cons y i 0 k, ne-eqb (getD x i 0) (getD y i 0) g, and-false, f) refl
 
-  pub same-end : length x ≤ i → true ≡ same x y
+  pub same-end : length x ≤ i → alike ≡ same x y
   unfolding same
   same-end h =
       let k : length y ≤ i = omega arith in
-      sym (inv ∙ rw (drop-of-length-le x h, drop-of-length-le y k) refl)
+      sym (inv ∙ rw (drop-of-length-le x h, drop-of-length-le y k, and-true) refl)
 
 pub ruleset comparing = (same-lengths, same-more, same-stop, same-end)

@@ -1,6 +1,6 @@
--- The text section as the code goes through it, by its length bytes, and the kind of each text.
+-- The text section as the code goes through it, by its length bytes, and the kind and checksum of each text.
 use mathlib.Core.Path.{_≡_}
-use Prim.Native.Nat.{ℕ, zero, suc, _+_}
+use Prim.Native.Nat.{ℕ, zero, suc, _+_, _*_, _%_, _^_}
 use mathlib.Core.List.{List, [], _∷_, map}
 use mathlib.Core.Bool.{Bool, true, false}
 use lib.Dec.{eqb, leb}
@@ -44,6 +44,14 @@ ofKind kind x = eqb (kindOf x) kind
 
 unfoldable pub kindsOf : List ℕ → List ℕ
 kindsOf s = map kindOf (textsOf s)
+
+-- a checksum: texts whose checksums differ are different
+unfoldable pub sumFrom : ℕ → Text → ℕ
+sumFrom h [] = h
+sumFrom h (c ∷ cs) = sumFrom ((h * 251 + c) % 2 ^ 56) cs
+
+unfoldable pub checksum : Text → ℕ
+checksum x = sumFrom 0 x
 
 -- the count of the texts, as `texts` begins
 unfoldable pub textCount : Reader ℕ

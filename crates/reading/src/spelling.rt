@@ -1,8 +1,9 @@
-// How names and float literals are spelled.
+// How names and float literals are spelled, and whether two texts are equal.
+use crate::numbers::wide;
 ghost use mathlib.Core.Path.{_≡_};
 ghost use mathlib.Core.Bool.{_&&_, _||_};
 ghost use Rattle.tree.specs.Texts.{letter, digit, every, digits, fraction, isName, isFloat, same};
-ghost use Rattle.reading.specs.Section.{kindOf};
+ghost use Rattle.reading.specs.Section.{kindOf, checksum as sumOf};
 
 pub const NEITHER: u8 = 0;
 
@@ -11,6 +12,9 @@ pub const NAME: u8 = 1;
 pub const FLOAT: u8 = 2;
 
 const POINT: u8 = 46;
+
+// A checksum is below 2^56.
+const SUM_LIMIT: u64 = 72057594037927936;
 
 fn is_letter(c: u8) -> bool
     ensures { λ r. ⌜ r ≡ letter c ⌝ }
@@ -122,19 +126,32 @@ pub fn kind(x: &[u8]) -> u8
     NEITHER
 }
 
+pub fn checksum(x: &[u8]) -> u64
+    ensures { λ r. ⌜ r ≡ sumOf (now (x .entry)) ⌝ }
+{
+    let mut h = 0;
+    let mut i = 0;
+    while i < x.len() {
+        h = (h * 251 + wide(x[i]) as u64) % SUM_LIMIT;
+        i += 1;
+    }
+    h
+}
+
+// Every byte is looked at, so that many are compared at once.
 pub fn is_same(x: &[u8], y: &[u8]) -> bool
     ensures { λ r. ⌜ r ≡ same (now (x .entry)) (now (y .entry)) ⌝ }
 {
     if x.len() != y.len() {
         return false;
     }
+    let mut alike = true;
     let mut i = 0;
     while i < x.len() {
-        if x[i] == y[i] {
-            i += 1;
-        } else {
-            return false;
+        if x[i] != y[i] {
+            alike = false;
         }
+        i += 1;
     }
-    true
+    alike
 }

@@ -11,11 +11,12 @@ use crate::numbers::wide;
 use crate::spelling;
 ghost use mathlib.Core.Path.{_≡_};
 ghost use Prim.Native.Nat.{_≤_, _-_};
+ghost use mathlib.Core.List.{map};
 ghost use lib.ListN.{length, take, drop};
-ghost use Rattle.tree.specs.Texts.{allowed, among, text, isName, isFloat, isPath};
+ghost use Rattle.tree.specs.Texts.{allowed, same, among, text, isName, isFloat, isPath};
 ghost use Rattle.tree.specs.Exprs.{textNumber};
 ghost use Rattle.reading.specs.Answers.{forget, gaveNumber, gaveText};
-ghost use Rattle.reading.specs.Section.{textAt, past, textsFrom, pastTexts, textCount, ofKind, kindsOf, Gathered};
+ghost use Rattle.reading.specs.Section.{textAt, past, textsFrom, pastTexts, textCount, ofKind, kindsOf, checksum, Gathered};
 ghost use Rattle.tree.specs.Ans.{ok};
 ghost use Rattle.tree.specs.Decode.{textsOf};
 
@@ -63,15 +64,31 @@ fn text_at(s: &[u8], at: usize) -> &[u8]
     &s[at + 1..end]
 }
 
-// Whether a text equals one of the first `n`.
-fn is_repeated(s: &[u8], x: &[u8], n: usize) -> bool
+// Whether a text equals the one at `at`, given the checksums of both.
+fn is_text(s: &[u8], at: usize, other: u64, x: &[u8], sum: u64) -> bool
+    requires { ⌜ past (now s) at ≤ length (now s) ⌝ }
+    requires { ⌜ other ≡ checksum (textAt (now s) at) ⌝ }
+    requires { ⌜ sum ≡ checksum (now x) ⌝ }
+    ensures { λ r. ⌜ r ≡ same (now (x .entry)) (textAt (now (s .entry)) at) ⌝ }
+{
+    if sum == other {
+        return spelling::is_same(x, text_at(s, at));
+    }
+    false
+}
+
+// Whether a text equals one of the first `n`, whose checksums are lent.
+fn is_repeated(s: &[u8], x: &[u8], n: usize, sums: &[u64]) -> bool
+    requires { ⌜ n ≤ 256 ⌝ }
     requires { ⌜ pastTexts (now s) n 2 ≤ length (now s) ⌝ }
+    requires { ⌜ now sums ≡ map checksum (textsFrom (now s) n 2) ⌝ }
     ensures { λ r. ⌜ r ≡ among (now (x .entry)) (textsFrom (now (s .entry)) n 2) ⌝ }
 {
+    let sum = spelling::checksum(x);
     let mut k = 2;
     let mut i = n;
     while 0 < i {
-        if spelling::is_same(x, text_at(s, k)) {
+        if is_text(s, k, sums[n - i], x, sum) {
             return true;
         }
         k = past_text(s, k);
@@ -81,8 +98,10 @@ fn is_repeated(s: &[u8], x: &[u8], n: usize) -> bool
 }
 
 // A text behind `n` others.
-fn read_text(s: &[u8], at: usize, n: usize) -> Read
+fn read_text(s: &[u8], at: usize, n: usize, sums: &[u64]) -> Read
+    requires { ⌜ n ≤ 256 ⌝ }
     requires { ⌜ pastTexts (now s) n 2 ≡ at ⌝ }
+    requires { ⌜ now sums ≡ map checksum (textsFrom (now s) n 2) ⌝ }
     ensures { λ r. ⌜ r ≡ forget (text (textsFrom (now (s .entry)) n 2) (now (s .entry)) at) ⌝ }
 {
     let a = read_byte(s, at);
@@ -104,7 +123,7 @@ fn read_text(s: &[u8], at: usize, n: usize) -> Read
     let Read::At(k) = b else {
         return b;
     };
-    if is_repeated(s, &s[start..end], n) {
+    if is_repeated(s, &s[start..end], n, sums) {
         return Read::Refused(4, at);
     }
     Read::At(k)
@@ -130,14 +149,17 @@ pub fn read_texts(s: &[u8], first: usize, n: usize, kinds: &mut [u8; TEXTS_LIMIT
     requires { ⌜ length (now kinds) ≡ 256 ⌝ }
     ensures { λ r. ⌜ Gathered (now (s .entry)) (now (kinds .exit)) n r ⌝ }
 {
+    let mut sums = [0u64; TEXTS_LIMIT];
     let mut k = first;
     let mut i = 0;
     while i < n {
-        let a = read_text(s, k, i);
+        let a = read_text(s, k, i, &sums[..i]);
         let Read::At(next) = a else {
             return a;
         };
-        kinds[i] = spelling::kind(&s[k + 1..next]);
+        let x = &s[k + 1..next];
+        kinds[i] = spelling::kind(x);
+        sums[i] = spelling::checksum(x);
         k = next;
         i += 1;
     }
