@@ -3,3 +3,4 @@ pub mod Unlike
 pub mod SkipExprs
 pub mod ReadOperands
 pub mod SkipParts
+pub mod TreeReaders

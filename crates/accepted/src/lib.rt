@@ -5,3 +5,4 @@ pub mod numbers;
 pub mod operands;
 pub mod parts;
 pub mod stmts;
+pub mod tree_reader;

@@ -1,7 +1,7 @@
 // Numbers, big-endian, and spans.
 ghost use mathlib.Core.Path.{_≡_};
 ghost use Prim.Native.Nat.{_+_, _≤_, _<_};
-ghost use lib.ListN.{length};
+ghost use lib.ListN.{length, getD};
 ghost use Rattle.context.specs.View.{numberAt, spanAt};
 use span::Span;
 
@@ -9,6 +9,13 @@ pub fn wide(x: u8) -> usize
     ensures { λ r. ⌜ (r ≡ x) × (r < 256) ⌝ }
 {
     x as usize
+}
+
+pub fn byte_at(s: &[u8], at: usize) -> u8
+    requires { ⌜ at < length (now s) ⌝ }
+    ensures { λ r. ⌜ r ≡ getD (now (s .entry)) at 0 ⌝ }
+{
+    s[at]
 }
 
 pub fn u16_at(s: &[u8], at: usize) -> usize
