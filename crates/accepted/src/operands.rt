@@ -10,7 +10,10 @@ ghost use Rattle.context.specs.Values.{numberOf, endsOf, operandOf};
 use crate::numbers::span_at;
 use crate::numbers::u16_at;
 use crate::numbers::u64_at;
-use crate::numbers::wide;
+use crate::tree_reader::TreeReader;
+use crate::tree_reader::byte;
+use crate::tree_reader::number;
+use crate::tree_reader::skip;
 use context::Ends;
 use context::GateOperand;
 use context::Number;
@@ -35,13 +38,14 @@ pub fn number_at(s: &[u8], at: usize) -> ReadNumber
     requires { ⌜ IsOk (option u64 (now s) at) ⌝ }
     ensures { λ r. ⌜ option u64 (now (s .entry)) at ≡ ok (numberOf (r .number)) (r .next) ⌝ }
 {
-    if s[at] == 0 {
+    let r = TreeReader { tree: s, at };
+    if byte(r) == 0 {
         return ReadNumber {
             number: Number::None,
             next: at + 1,
         };
     }
-    let n = u64_at(s, at + 1);
+    let n = number(skip(r, 1));
     ReadNumber {
         number: Number::Some(n),
         next: at + 9,

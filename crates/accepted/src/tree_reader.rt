@@ -42,3 +42,14 @@ pub fn span<'a>(r: TreeReader<'a>) -> Span
 {
     span_at(r.tree, r.at)
 }
+
+// The reader so many bytes further on.
+pub fn skip<'a>(r: TreeReader<'a>, n: usize) -> TreeReader<'a>
+    requires { ⌜ r .at + n ≤ length (now (r .tree)) ⌝ }
+    ensures { λ q. ⌜ (q .tree ≡ r .entry .tree) × (q .at ≡ r .entry .at + n) ⌝ }
+{
+    TreeReader {
+        tree: r.tree,
+        at: r.at + n,
+    }
+}
