@@ -4,3 +4,4 @@ pub mod SkipExprs
 pub mod ReadOperands
 pub mod SkipParts
 pub mod TreeReaders
+pub mod Thin

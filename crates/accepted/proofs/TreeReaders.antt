@@ -1,6 +1,9 @@
--- What the functions over a `TreeReader` share. Each takes the struct apart and calls a function on the bytes and the place.
---     B, D, L      the struct's type, its description and its laws, at a lifetime
---     held         the struct is Copy: what it owns is had twice, once as the bytes and the place, once whole
+-- What the proofs over a `TreeReader` share: what the struct owns, and what its parts own.
+--     B, D, L          the struct's type, its description and its laws, over a signature's lifetimes
+--     mach, bytes      the machine values of the struct and of its bytes
+--     Own, Parts       what the struct owns, and what the bytes and the place own
+--     twice            the struct is Copy: what it owns is had twice
+--     held, made       the struct gives its parts beside itself, and the parts make the struct beside themselves
 -- Assumes nothing.
 use mathlib.Core.Path.{_≡_, refl}
 use Prim.Native.Nat.{_<_, _^_}
@@ -39,7 +42,6 @@ D κs = T.the-type (namedLft 1 0 tt κs)
 abbrev pub L : (κs : Lfts 1) → LL.Laws (D κs)
 L κs = T′.the-laws (namedLft 1 0 tt κs)
 
--- the machine values: the struct's, the bytes' and the place's
 abbrev pub mach : TreeReader → Val
 mach d = T′.lowered d
 

@@ -1,4 +1,4 @@
-// Numbers, big-endian, and spans.
+// Bytes, numbers, big-endian, and spans.
 ghost use mathlib.Core.Path.{_≡_};
 ghost use Prim.Native.Nat.{_+_, _≤_, _<_};
 ghost use lib.ListN.{length, getD};
