@@ -41,20 +41,12 @@ module _ (t : List Text) (s : List ℕ) (at : ℕ) where
 
     -- `ctrl` and `negctrl` have one shape
     module _ (n : getD s at 0 ≡ 2 → ⊥) (o : getD s at 0 ≡ 3 → ⊥) where
-      control : (getD s at 0 ≡ 0) ⊎ (getD s at 0 ≡ 1)
-      control = go (getD s at 0) n o (of.modifier-below t s at h)
-        where
-          go : (b : ℕ) → (b ≡ 2 → ⊥) → (b ≡ 3 → ⊥) → b < 4 → (b ≡ 0) ⊎ (b ≡ 1)
-          go zero n o l = inl refl
-          go (suc zero) n o l = inr refl
-          go (suc (suc b)) n o l = absurd (omega arith)
-
       pub control-count : IsOk (option (held t) s (at + 1))
-      control-count = ⊎-elim (of.ctrl-count t s at h) (of.negCtrl-count t s at h) control
+      control-count = of.control-count t s at h n o
 
       module _ (k : ℕ) (e : k ≡ nextOf (option (held t) s (at + 1))) where
         pub control-inside : k + 8 ≤ length s
-        control-inside = ⊎-elim (λ b. of.ctrl-inside t s at h b k e) (λ b. of.negCtrl-inside t s at h b k e) control
+        control-inside = of.control-inside t s at h n o k e
 
         pub control-next : k + 8 ≡ nextOf (modifier t s at)
-        control-next = sym (⊎-elim (λ b. next-is (of.ctrl-is t s at h b k e)) (λ b. next-is (of.negCtrl-is t s at h b k e)) control)
+        control-next = sym (⊎-elim (λ b. next-is (of.ctrl-is t s at h b k e)) (λ b. next-is (of.negCtrl-is t s at h b k e)) (of.control t s at h n o))

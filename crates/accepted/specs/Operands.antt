@@ -1,8 +1,9 @@
 -- What accepted operands, modifiers, ranges and parameters say of their parts, and which values they are. Assumes nothing.
-use Prim.Native.Nat.{ℕ, _+_, _≤_, _<_}
+use Prim.Native.Nat.{ℕ, zero, suc, _+_, _≤_, _<_}
 use mathlib.Core.Path.{_≡_, refl}
 use mathlib.Core.List.{List, [], _∷_}
 use mathlib.Core.Option.{none, some}
+use mathlib.Core.Logic.{_⊎_, inl, inr, ⊎-elim}
 use native.Mathlib.Omega.{arith}
 use lib.ListN.{length, getD}
 use Rattle.ast.specs.Tree.{Text, GateModifier}
@@ -199,6 +200,22 @@ module _ (t : List Text) (s : List ℕ) (at : ℕ) (h : IsOk (modifier t s at)) 
 
       pub negCtrl-inside : k + 8 ≤ length s
       negCtrl-inside = end-in negCtrl-is (modifier-end)
+
+  -- `ctrl` and `negctrl` have one shape
+  module _ (n : getD s at 0 ≡ 2 → ⊥) (o : getD s at 0 ≡ 3 → ⊥) where
+    pub control : (getD s at 0 ≡ 0) ⊎ (getD s at 0 ≡ 1)
+    control = go (getD s at 0) n o modifier-below
+      where
+        go : (b : ℕ) → (b ≡ 2 → ⊥) → (b ≡ 3 → ⊥) → b < 4 → (b ≡ 0) ⊎ (b ≡ 1)
+        go zero n o l = inl refl
+        go (suc zero) n o l = inr refl
+        go (suc (suc b)) n o l = absurd (omega arith)
+
+    pub control-count : IsOk (option (held t) s (at + 1))
+    control-count = ⊎-elim ctrl-count negCtrl-count control
+
+    pub control-inside : (k : ℕ) → k ≡ nextOf (option (held t) s (at + 1)) → k + 8 ≤ length s
+    control-inside k e = ⊎-elim (λ b. ctrl-inside b k e) (λ b. negCtrl-inside b k e) control
 
   -- `inv`
   module _ (b : getD s at 0 ≡ 2) where

@@ -12,7 +12,7 @@ use borrow.Author.Tests.{lt-ltb, le-ltb}
 use Rattle.text.specs.Text.{text}
 use Rattle.text.specs.Decimal.{decimal}
 use Rattle.ast.specs.Tree.{Text, Program, noStmt}
-use Rattle.tree.specs.Ans.{Ans, ok, refused, IsOk, nextOf}
+use Rattle.tree.specs.Ans.{Ans, ok, refused, given, IsOk, nextOf}
 use Rattle.tree.specs.Decode.{textsOf, decode}
 use Rattle.sema.specs.Messages.{Diagnostic, Error, Warning}
 use Rattle.sema.specs.Keys.{keys}
@@ -26,11 +26,9 @@ use Rattle.context.specs.View.{keysIn}
 use Rattle.lines.specs.EmitLaws.{allBytes, listing-parts, listing-stored}
 use Rattle.sheet.specs.Sheet.{KeysAdded}
 use Rattle.tables.specs.Tables.{cleared}
-use Rattle.claims.specs.Claim.{Claim}
+use Rattle.claims.specs.Claim.{programOf, Claim}
 use Rattle.claims.proofs.Demand3.{demand-3}
-use Rattle.accepted.specs.Parts.{valueOr}
 use Rattle.checker.specs.declared.Answer.{Answer as AnswerValue}
-use Rattle.checker.specs.Program.{programOf}
 use Rattle.checker.specs.Check.{answerOf, SameRest, listingFor, Judged, JudgedFile, Ran, Learnt}
 use Rattle.checker.proofs.Runs.{written}
 
@@ -141,13 +139,13 @@ pub judged-refused : (tree s l : List ℕ) (n q : ℕ) → decode tree ≡ refus
 unfolding judgeFile listingAfter
 judged-refused tree s l n q e = record { answers = rw e; listed = rw e; scratch = record { same-length = refl; same-rest = refl } }
 
-program-of : (x : Ans Program) (d : Program) (room : ℕ) → IsOk x → judgeFile room x ≡ judgeProgram room (valueOr d x)
-unfolding judgeFile IsOk valueOr
+program-of : (x : Ans Program) (d : Program) (room : ℕ) → IsOk x → judgeFile room x ≡ judgeProgram room (given d (λ p. p) x)
+unfolding judgeFile IsOk given
 program-of (ok p next) d room h = refl
 program-of (refused n q) d room h = absurd h
 
-listing-of : (x : Ans Program) (d : Program) → IsOk x → listingFile x ≡ listingOf (valueOr d x .texts) (analyze (valueOr d x))
-unfolding listingFile IsOk valueOr
+listing-of : (x : Ans Program) (d : Program) → IsOk x → listingFile x ≡ listingOf (given d (λ p. p) x .texts) (analyze (given d (λ p. p) x))
+unfolding listingFile IsOk given
 listing-of (ok p next) d h = refl
 listing-of (refused n q) d h = absurd h
 

@@ -24,16 +24,16 @@ use Rattle.context.specs.Sink.{SinkFits}
 use Rattle.context.specs.View.{Placed, keysIn, scopesOf, gatesOf, functionsOf, marksOf, contextOf}
 use Rattle.tables.specs.Tables.{tablesEnd, FewParams, cleared}
 use Rattle.tables.specs.Laws.{cleared-scopes, cleared-gates, cleared-functions, few-empty}
-use Rattle.accepted.specs.Parts.{valueOr, value-is}
+use Rattle.accepted.specs.Parts.{valueOr, value-is, given-is}
 use Rattle.accepted.specs.Files.{file-is, file-body}
 use Rattle.promises.specs.Walks.{Ready, BodyKeyed}
-use Rattle.checker.specs.Program.{programOf}
+use Rattle.claims.specs.Claim.{programOf}
 use Rattle.checker.specs.Check.{sinkAt}
 
 module _ (tree : List ℕ) (h : IsOk (decode tree)) (at : ℕ) (e : at ≡ nextOf (texts tree 0)) where
   pub program-is : programOf tree ≡ record { texts = textsOf tree; statements = valueOr noStmt (body (stmt (textsOf tree) 8) tree at) }
   unfolding programOf
-  program-is = value-is (file-is tree h at e) _
+  program-is = given-is (file-is tree h at e) _ (λ p. p)
 
   pub program-texts : programOf tree .texts ≡ textsOf tree
   program-texts = ap (λ (p : Program). p .texts) program-is

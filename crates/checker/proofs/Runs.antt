@@ -25,7 +25,7 @@ use Rattle.tables.specs.Tables.{tablesEnd, cleared}
 use Rattle.accepted.specs.Parts.{valueOr, given-ok}
 use Rattle.promises.specs.Emitted.{Emitted, emitted-as}
 use Rattle.promises.specs.Walks.{BodyWalked, walkBody}
-use Rattle.checker.specs.Program.{programOf}
+use Rattle.claims.specs.Claim.{programOf}
 use Rattle.checker.specs.Check.{SameRest, Ran, Learnt, sinkAt}
 use Rattle.checker.proofs.Programs.{program-is, program-body, new-context}
 

@@ -13,7 +13,7 @@ ghost use Rattle.tree.specs.Decode.{textsOf, decode};
 ghost use Rattle.sema.specs.Stmts.{analyze};
 ghost use Rattle.sema.specs.Keys.{keys as keysOf};
 ghost use Rattle.answer.specs.Answer.{accepted, answer, judgeDiagnostics, judgeProgram, listingAfter, scratchAfter};
-ghost use Rattle.claims.specs.Claim.{Claim};
+ghost use Rattle.claims.specs.Claim.{programOf, Claim};
 ghost use Rattle.context.specs.View.{keysIn};
 ghost use Rattle.promises.specs.Walks.{Walkable};
 ghost use Rattle.text.specs.Text.{text};
@@ -21,7 +21,6 @@ ghost use Rattle.text.specs.Decimal.{decimal};
 ghost use Rattle.listing.specs.Listing.{ended, spaced, listingOf};
 ghost use lib.Seq.{sets};
 ghost use Rattle.checker.specs.Check.{answerOf, SameRest, Judged, JudgedFile, Ran, Learnt, Staged};
-ghost use Rattle.checker.specs.Program.{programOf};
 
 pub enum Answer {
     Accepted(usize, usize, usize),

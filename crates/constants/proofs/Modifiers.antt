@@ -60,20 +60,12 @@ module _ (t : List Text) (s : List ℕ) (at : ℕ) (before : Total) where
 
     -- `ctrl` and `negctrl` have one shape
     module _ (n : getD s at 0 ≡ 2 → ⊥) (o : getD s at 0 ≡ 3 → ⊥) where
-      control : (getD s at 0 ≡ 0) ⊎ (getD s at 0 ≡ 1)
-      control = go (getD s at 0) n o (of.modifier-below t s at h)
-        where
-          go : (b : ℕ) → (b ≡ 2 → ⊥) → (b ≡ 3 → ⊥) → b < 4 → (b ≡ 0) ⊎ (b ≡ 1)
-          go zero n o l = inl refl
-          go (suc zero) n o l = inr refl
-          go (suc (suc b)) n o l = absurd (omega arith)
-
       pub control-count : IsOk (option (held t) s (at + 1))
-      control-count = ⊎-elim (of.ctrl-count t s at h) (of.negCtrl-count t s at h) control
+      control-count = of.control-count t s at h n o
 
       module _ (c : Controls) (p : Counted before (option (held t) s (at + 1)) c) where
         pub control-inside : c .next + 8 ≤ length s
-        control-inside = ⊎-elim (λ b. of.ctrl-inside t s at h b _ (p .next)) (λ b. of.negCtrl-inside t s at h b _ (p .next)) control
+        control-inside = of.control-inside t s at h n o _ (p .next)
 
         pub added-control : Added before (modifier t s at) (record { total = c .total; next = c .next + 8 })
         unfolding addControls added
@@ -82,7 +74,7 @@ module _ (t : List Text) (s : List ℕ) (at : ℕ) (before : Total) where
             ⊎-elim
             (λ b. let is = of.ctrl-is t s at h b _ (p .next) in record { next = sym (next-is is); total = sum ∙ sym (given-is is none with-modifier) })
             (λ b. let is = of.negCtrl-is t s at h b _ (p .next) in record { next = sym (next-is is); total = sum ∙ sym (given-is is none with-modifier) })
-            control
+            (of.control t s at h n o)
 
 -- one modifier, and those behind it
 add-step : (o : Option ℕ) (m : GateModifier) (ms : List GateModifier) → addControls o (m ∷ ms) ≡ addControls (addControls o (m ∷ [])) ms

@@ -91,19 +91,11 @@ module _ (t : List Text) (ss : Symbols) (fs : Table FunctionSig) (s : List ℕ) 
 
 -- `ctrl` and `negctrl` have one shape
 module _ (t : List Text) (s : List ℕ) (at : ℕ) (h : IsOk (modifier t s at)) (n : getD s at 0 ≡ 2 → ⊥) (o : getD s at 0 ≡ 3 → ⊥) where
-  control : (getD s at 0 ≡ 0) ⊎ (getD s at 0 ≡ 1)
-  control = go (getD s at 0) n o (of.modifier-below t s at h)
-    where
-      go : (b : ℕ) → (b ≡ 2 → ⊥) → (b ≡ 3 → ⊥) → b < 4 → (b ≡ 0) ⊎ (b ≡ 1)
-      go zero n o l = inl refl
-      go (suc zero) n o l = inr refl
-      go (suc (suc b)) n o l = absurd (omega arith)
-
   pub control-count : IsOk (option (held t) s (at + 1))
-  control-count = ⊎-elim (of.ctrl-count t s at h) (of.negCtrl-count t s at h) control
+  control-count = of.control-count t s at h n o
 
   pub control-inside : nextOf (option (held t) s (at + 1)) + 8 ≤ length s
-  control-inside = ⊎-elim (λ b. of.ctrl-inside t s at h b _ refl) (λ b. of.negCtrl-inside t s at h b _ refl) control
+  control-inside = of.control-inside t s at h n o _ refl
 
   module _ (ss : Symbols) (fs : Table FunctionSig) {k : Sink} {q : List ℕ} {a : After} {q′ : List ℕ} (p : SaidOf t (λ arg. controlSays ss fs arg (span-behind t s (at + 1))) (option (held t) s (at + 1)) k q a q′) where
     pub control-said : SaidOf t (checkModifier ss fs) (modifier t s at) k q (record { next = a .next + 8; sink = a .sink }) q′
@@ -113,4 +105,4 @@ module _ (t : List Text) (s : List ℕ) (at : ℕ) (h : IsOk (modifier t s at)) 
         ⊎-elim
         (λ b. let is = of.ctrl-is t s at h b _ refl in record { next = ap (λ n. n + 8) (p .next) ∙ sym (next-is is); emitted = emitted-as here (sym (given-is is [] (checkModifier ss fs))) })
         (λ b. let is = of.negCtrl-is t s at h b _ refl in record { next = ap (λ n. n + 8) (p .next) ∙ sym (next-is is); emitted = emitted-as here (sym (given-is is [] (checkModifier ss fs))) })
-        control
+        (of.control t s at h n o)

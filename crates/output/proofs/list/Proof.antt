@@ -3,7 +3,7 @@ use mathlib.Core.Path.{sym, ap, _∙_}
 use native.Mathlib.Omega.{arith}
 use lib.Seq.{length-take-le}
 use Rattle.checker.specs.Check.{answerOf}
-use Rattle.checker.specs.Room.{accepted-room}
+use Rattle.claims.proofs.Demand3.{accepted-room}
 use borrow.Author.Needs.{needs}
 use Rattle.output.proofs.list.Statement.{statement}
 use Rattle.output.proofs.list.Tie as tie
