@@ -23,6 +23,10 @@ impl Times {
     fn ratio(&self) -> f64 {
         self.rust / self.ours
     }
+
+    fn ratio_bytes(&self) -> f64 {
+        self.rust_bytes / self.ours
+    }
 }
 
 fn once(call: &mut dyn FnMut(), times: usize) -> f64 {
@@ -71,17 +75,18 @@ fn time(case: &Sized, scratch: &mut [u8], listing: &mut [u8]) -> Times {
 
 fn line(name: &str, all: &[&Times]) {
     let of = |f: fn(&Times) -> f64| median(all.iter().map(|t| f(t)).collect());
-    let worst = all.iter().map(|t| t.ratio()).fold(f64::INFINITY, f64::min);
+    let worst = |f: fn(&Times) -> f64| all.iter().map(|t| f(t)).fold(f64::INFINITY, f64::min);
     println!(
-        "| {name} | {} | {:.0} | {:.1} | {:.1} | {:.1} | {:.2} | {:.2} | {:.2} |",
+        "| {name} | {} | {:.0} | {:.1} | {:.1} | {:.1} | {:.2} | {:.2} | {:.2} | {:.2} |",
         all.len(),
         of(|t| t.bytes as f64),
         of(|t| t.ours) / 1000.0,
         of(|t| t.rust) / 1000.0,
         of(|t| t.rust_bytes) / 1000.0,
         of(Times::ratio),
-        worst,
-        of(|t| t.rust_bytes / t.ours),
+        worst(Times::ratio),
+        of(Times::ratio_bytes),
+        worst(Times::ratio_bytes),
     );
 }
 
@@ -91,8 +96,11 @@ pub fn run(seed: u64) -> i32 {
     let cases = bench_trees::all(seed);
     let times: Vec<Times> =
         cases.iter().map(|case| time(case, &mut scratch, &mut listing)).collect();
-    println!("| trees | count | bytes | ours, us | analyze, us | from bytes, us | ratio | worst ratio | ratio from bytes |");
-    println!("|---|---|---|---|---|---|---|---|---|");
+    println!(
+        "| trees | count | bytes | ours, us | analyze, us | from bytes, us \
+         | ratio to analyze | worst | ratio from bytes | worst |"
+    );
+    println!("|---|---|---|---|---|---|---|---|---|---|");
     for name in bench_trees::NAMES {
         line(name, &times.iter().filter(|t| t.name == name).collect::<Vec<_>>());
     }

@@ -13,7 +13,7 @@ pub struct Sized {
     pub bytes: Vec<u8>,
 }
 
-pub const NAMES: [&str; 8] = [
+pub const NAMES: [&str; 9] = [
     "small",
     "middle",
     "16 KiB",
@@ -22,6 +22,7 @@ pub const NAMES: [&str; 8] = [
     "many names",
     "long texts",
     "long texts, equal beginnings",
+    "many diagnostics",
 ];
 const LARGEST: usize = 16_384;
 
@@ -152,6 +153,22 @@ fn many_keys(name: &'static str, mut m: Maker) -> Sized {
     })
 }
 
+/// 200 uses of a measured qubit among other calls.
+fn many_diagnostics(name: &'static str, mut m: Maker) -> Sized {
+    let (q, r) = (m.text("q"), m.text("r"));
+    let whole = operand(&mut m, q, None, None);
+    let mut first = vec![qubit(&mut m, q, Some(8)), qubit(&mut m, r, Some(8))];
+    first.push(measure(&mut m, whole));
+    let mut left = 200;
+    filled(name, m, LARGEST, first, |m| {
+        let paid = left > 0 && m.draws.one_in(2);
+        left -= paid as usize;
+        let index = m.draws.below(8) as u64;
+        let used = operand(m, if paid { q } else { r }, Some(index), None);
+        vec![gate(m, "h", vec![used])]
+    })
+}
+
 /// So many registers.
 fn many_names(name: &'static str, mut m: Maker, count: usize, text: fn(usize) -> String) -> Sized {
     let qubits: Vec<Text> = (0..count).map(|i| m.text(&text(i))).collect();
@@ -181,6 +198,7 @@ fn made(name: &'static str, m: Maker, most: usize) -> Sized {
     match name {
         "deep nests of if" => deep(name, m),
         "many keys" => many_keys(name, m),
+        "many diagnostics" => many_diagnostics(name, m),
         "many names" => many_names(name, m, 200, |i| format!("n{i}")),
         "long texts" => many_names(name, m, 120, begins_differ),
         "long texts, equal beginnings" => many_names(name, m, 120, ends_differ),
