@@ -225,5 +225,7 @@ pub fn all(seed: u64) -> Vec<Sized> {
 
 /// Programs of one kind, each twice as large as the one before.
 pub fn growing(seed: u64) -> Vec<Sized> {
-    [512, 1024, 2048, 4096, 8192, LARGEST].map(|most| program("growing", maker(seed, 7), most)).into()
+    [512, 1024, 2048, 4096, 8192, LARGEST]
+        .map(|most| program("growing", maker(seed, 7), most))
+        .into()
 }

@@ -53,7 +53,8 @@ impl Steps {
     fn uses(&mut self, operands: &[GateOperand], span: &Span) -> Vec<Step> {
         let place = self.places;
         self.places += operands.len();
-        let one = |(i, o): (usize, &GateOperand)| Step::Event(Event::Use(place + i, o.clone(), *span));
+        let one =
+            |(i, o): (usize, &GateOperand)| Step::Event(Event::Use(place + i, o.clone(), *span));
         operands.iter().enumerate().map(one).collect()
     }
 

@@ -44,7 +44,12 @@ impl Tally {
     }
 
     /// A call with room for all, and one whose lengths take turns; or all.
-    fn compare(&mut self, case: &Case, buffers: &mut Buffers, turns: &[usize]) -> Result<(), String> {
+    fn compare(
+        &mut self,
+        case: &Case,
+        buffers: &mut Buffers,
+        turns: &[usize],
+    ) -> Result<(), String> {
         let verdict = oracle::verdict(&case.bytes, &case.tree);
         self.counts.add_case(case, &verdict);
         let wanted = Wanted::new(&verdict);
@@ -72,7 +77,13 @@ fn turns(number: u64, all: bool) -> Vec<usize> {
     vec![number % 28, number * 2 % 28]
 }
 
-fn block(tally: &mut Tally, buffers: &mut Buffers, numbers: std::ops::Range<u64>, seed: u64, all: bool) {
+fn block(
+    tally: &mut Tally,
+    buffers: &mut Buffers,
+    numbers: std::ops::Range<u64>,
+    seed: u64,
+    all: bool,
+) {
     for number in numbers {
         let case = case(seed, number);
         if let Err(what) = tally.compare(&case, buffers, &turns(number, all)) {
@@ -101,7 +112,10 @@ pub fn run(cases: u64, seed: u64, threads: u64, all: bool) -> i32 {
     });
     let complete = tally.counts.report();
     tally.different.iter().take(20).for_each(|line| println!("{line}"));
-    println!("{} trees walked along {} paths, {} paid lines", tally.walked, tally.paths, tally.paid);
+    println!(
+        "{} trees walked along {} paths, {} paid lines",
+        tally.walked, tally.paths, tally.paid
+    );
     println!("{cases} trees, {} calls, {} different", tally.calls, tally.different.len());
     (!complete || !tally.different.is_empty()) as i32
 }
