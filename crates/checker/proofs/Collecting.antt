@@ -22,7 +22,7 @@ use Rattle.keys.specs.Collected.{BodyCollected}
 use Rattle.keys.specs.Laws.{keys-collected}
 use Rattle.index.specs.Kept.{texts-kept}
 use Rattle.promises.specs.Walks.{Walkable}
-use Rattle.checker.specs.declared.Answer.{Answer as AnswerValue}
+use Rattle.verdict.specs.declared.Answer.{Answer as AnswerValue}
 use Rattle.claims.specs.Claim.{programOf}
 use Rattle.checker.specs.Check.{SameRest, Judged}
 use Rattle.checker.proofs.Programs.{program-is, program-body}

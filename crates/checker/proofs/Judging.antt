@@ -1,89 +1,39 @@
--- The judgements: of diagnostics, of a program, of a file, of a call. Assumes nothing.
+-- The judgements: of a program, of a file, of a call. Assumes nothing.
 use Prim.Native.Nat.{ℕ, zero, suc, _+_, _≤_, _<_, min}
-use mathlib.Core.Path.{_≡_, refl, sym, ap, _∙_}
+use mathlib.Core.Path.{_≡_, refl, sym, ap, subst, _∙_}
+use mathlib.Core.Bool.{false}
 use mathlib.Core.List.{List, [], _∷_, _++_}
 use native.Mathlib.Omega.{arith}
-use native.Mathlib.Decide.{decLe}
 use native.Mathlib.Nat.{zero-add}
-use lib.ListN.{length, drop, replicate, length-append}
-use lib.Seq.{sets, sets-eq}
-use lib.Dec.{ltb}
+use lib.ListN.{length, take, replicate}
+use lib.Seq.{sets}
+use lib.Dec.{T}
 use borrow.Author.Tests.{lt-ltb, le-ltb}
-use Rattle.text.specs.Text.{text}
-use Rattle.text.specs.Decimal.{decimal}
 use Rattle.ast.specs.Tree.{Text, Program, noStmt}
 use Rattle.tree.specs.Ans.{Ans, ok, refused, given, IsOk, nextOf}
 use Rattle.tree.specs.Decode.{textsOf, decode}
-use Rattle.sema.specs.Messages.{Diagnostic, Error, Warning}
 use Rattle.sema.specs.Keys.{keys}
 use Rattle.sema.specs.Stmts.{analyze}
-use Rattle.listing.specs.Listing.{ended, spaced, countOf, firstLine, listingOf}
-use Rattle.answer.specs.Answer.{Answer, accepted, refusal, unlessRefused, judgeListing, judgeDiagnostics, judgeProgram, judgeFile, answer, listingFile, listingAfter, scratchAfter}
+use Rattle.listing.specs.Listing.{ended, firstLine, listingOf}
+use Rattle.answer.specs.Answer.{Answer, accepted, refusal, judgeDiagnostics, judgeProgram, judgeFile, answer, listingFile, listingAfter, scratchAfter}
 use Rattle.reader.specs.Answers.{validated}
 use Rattle.reader.specs.declared.Validated.{Validated}
 use Rattle.context.specs.declared.Sink.{Sink}
 use Rattle.context.specs.View.{keysIn}
-use Rattle.lines.specs.EmitLaws.{allBytes, listing-parts, listing-stored}
+use Rattle.lines.specs.EmitLaws.{listing-stored}
 use Rattle.sheet.specs.Sheet.{KeysAdded}
 use Rattle.tables.specs.Tables.{cleared}
 use Rattle.claims.specs.Claim.{programOf, Claim}
 use Rattle.claims.proofs.Demand3.{demand-3}
-use Rattle.checker.specs.declared.Answer.{Answer as AnswerValue}
-use Rattle.checker.specs.Check.{answerOf, SameRest, listingFor, Judged, JudgedFile, Ran, Learnt}
+use Rattle.verdict.specs.declared.Answer.{Answer as AnswerValue}
+use Rattle.verdict.specs.Verdict.{answerOf, isAccepted, headOf, Learnt, Listable}
+use Rattle.verdict.proofs.Judging.{few-of, judged-fine, listed-fine}
+use Rattle.checker.specs.Check.{SameRest, listingFor, Judged, JudgedFile, Ran, Staged}
 use Rattle.checker.proofs.Runs.{written}
-
--- the judgement by its tests
-module _ (room : ℕ) (p : Program) (ds : List Diagnostic) where
-  diagnostics-many : 256 < length ds → judgeDiagnostics room p ds ≡ refusal 8 0
-  unfolding judgeDiagnostics
-  diagnostics-many h = rw (lt-ltb 256 (length ds) h, judgeDiagnostics)
-
-  diagnostics-few : length ds ≤ 256 → judgeDiagnostics room p ds ≡ judgeListing room ds (length (listingOf (p .texts) ds))
-  unfolding judgeDiagnostics
-  diagnostics-few h = rw (le-ltb 256 (length ds) h, judgeDiagnostics)
-
-  listing-long : (size : ℕ) → room < size → judgeListing room ds size ≡ refusal 9 0
-  unfolding judgeListing unlessRefused
-  listing-long size h = rw (lt-ltb room size h)
-
-  listing-fits : (size : ℕ) → size ≤ room → judgeListing room ds size ≡ accepted (countOf Error ds) (countOf Warning ds) size
-  unfolding judgeListing unlessRefused
-  listing-fits size h = rw (le-ltb room size h)
-
-module _ (p : Program) (sink : Sink) (l : Learnt p sink) where
-  pub few-of : sink .errors + sink .warnings ≤ 256 → length (analyze p) ≤ 256
-  few-of h = elim (decLe (length (analyze p)) 256) [ yes g ↦ g | no g ↦ (let o = l .over (omega arith) in absurd (omega arith)) ]
-
-  many-of : 256 < sink .errors + sink .warnings → 256 < length (analyze p)
-  many-of h = elim (decLe (length (analyze p)) 256) [ yes g ↦ (let o = l .few g in absurd (omega arith)) | no g ↦ omega arith ]
-
-  pub judged-many : 256 < sink .errors + sink .warnings → (room : ℕ) → judgeDiagnostics room p (analyze p) ≡ refusal 8 0
-  judged-many h room = diagnostics-many room p (analyze p) (many-of h)
-
-  module _ (h : sink .errors + sink .warnings ≤ 256) (head : ℕ) (e : head ≡ length (ended (spaced (text "list") (decimal (sink .errors) ∷ decimal (sink .warnings) ∷ []) ∷ []))) where
-    size-is : head + sink .n ≡ length (listingOf (p .texts) (analyze p))
-    unfolding firstLine
-    size-is =
-        let f = few-of h in
-        let a : head ≡ length (ended (firstLine (analyze p) ∷ [])) = rw (← l .errors f, ← l .warnings f) e in
-        let b = l .bytes f in
-        rw (listing-parts (p .texts) (analyze p)) (omega (arith, length-append (ended (firstLine (analyze p) ∷ [])) (allBytes (p .texts) (analyze p))))
-
-    module _ (room : ℕ) where
-      pub judged-long : room < head + sink .n → judgeDiagnostics room p (analyze p) ≡ refusal 9 0
-      judged-long g = diagnostics-few room p (analyze p) (few-of h) ∙ listing-long room p (analyze p) _ (rw size-is at g)
-
-      pub judged-fine : head + sink .n ≤ room → judgeDiagnostics room p (analyze p) ≡ accepted (sink .errors) (sink .warnings) (head + sink .n)
-      judged-fine g =
-          diagnostics-few room p (analyze p) (few-of h) ∙ listing-fits room p (analyze p) _ (rw size-is at g)
-          ∙ rw (← size-is, ← l .errors (few-of h), ← l .warnings (few-of h))
-
-    pub listed-fine : (buffer : List ℕ) → head + sink .n ≤ length buffer → sets buffer 0 (listingOf (p .texts) (analyze p)) ≡ listingOf (p .texts) (analyze p) ++ drop (head + sink .n) buffer
-    listed-fine buffer g = sets-eq (listingOf (p .texts) (analyze p)) buffer 0 (omega (arith, size-is)) ∙ rw (size-is, zero-add (length (listingOf (p .texts) (analyze p))))
 
 -- what the second walk leaves
 pub listing-written : (p : Program) (sink : Sink) → Learnt p sink → sink .errors + sink .warnings ≤ 256 → (t : List Text) → p .texts ≡ t → (l : List ℕ) → {s : List ℕ} {n : ℕ} {o : List ℕ} {r : Sink} {s′ o′ : List ℕ}
-    → o ≡ sets l 0 (ended (spaced (text "list") (decimal (sink .errors) ∷ decimal (sink .warnings) ∷ []) ∷ [])) → n ≡ 0 + length (ended (spaced (text "list") (decimal (sink .errors) ∷ decimal (sink .warnings) ∷ []) ∷ []))
+    → o ≡ sets l 0 (headOf (sink .errors) (sink .warnings)) → n ≡ 0 + length (headOf (sink .errors) (sink .warnings))
     → Ran p n s o r s′ o′ → o′ ≡ sets l 0 (listingOf t (analyze p))
 unfolding firstLine
 listing-written p sink k h t e l {s = s} {n = n} {o = o} {r = r} {s′ = s′} {o′ = o′} a b w =
@@ -92,24 +42,31 @@ listing-written p sink k h t e l {s = s} {n = n} {o = o} {r = r} {s′ = s′} {
     (written p n s o r s′ o′ w f
     ∙ rw (a, b, k .errors f, k .warnings f, zero-add (length (ended (firstLine (analyze p) ∷ [])))) (listing-stored (p .texts) (analyze p) l))
 
+-- what was kept, behind the first line, is the listing
+pub staged-written : (p : Program) (sink : Sink) → Learnt p sink → sink .errors + sink .warnings ≤ 256 → (t : List Text) → p .texts ≡ t → (l stage l′ : List ℕ) → Staged p sink stage → sink .n ≤ length stage
+    → l′ ≡ sets (sets l 0 (headOf (sink .errors) (sink .warnings))) (length (headOf (sink .errors) (sink .warnings))) (take (sink .n) stage) → l′ ≡ sets l 0 (listingOf t (analyze p))
+unfolding firstLine
+staged-written p sink k h t e l stage l′ s g w =
+    let f = few-of p sink k h in
+    rw (w, s .lines f g, k .errors f, k .warnings f, ← e) (listing-stored (p .texts) (analyze p) l)
+
+kept : (p : Program) (l : List ℕ) (a : Answer) → isAccepted a ≡ false → l ≡ listingFor p l a
+unfolding isAccepted
+kept p l (refusal n q) e = refl
+kept p l (accepted errors warnings size) e = absurd (subst T e tt)
+
 -- the ways out of `list`
-module _ (tree : List ℕ) (t : programOf tree .texts ≡ textsOf tree) {s l s′ : List ℕ} (sink : Sink) (k : Learnt (programOf tree) sink) (same : SameRest s s′) where
-  pub list-many : 256 < sink .errors + sink .warnings → Judged (programOf tree) (judgeDiagnostics (length l) (programOf tree) (analyze (programOf tree))) s l (AnswerValue.Refused 8 0) s′ l
-  list-many h = rw (judged-many (programOf tree) sink k h (length l)) (record { answers = refl; listed = refl; scratch = same })
+module _ (p : Program) (t : List Text) (e : p .texts ≡ t) {s l s′ : List ℕ} (sink : Sink) (k : Learnt p sink) (same : SameRest s s′) (a : AnswerValue) (j : answerOf a ≡ judgeDiagnostics (length l) p (analyze p)) where
+  pub list-refused : isAccepted (answerOf a) ≡ false → Judged p (judgeDiagnostics (length l) p (analyze p)) s l a s′ l
+  list-refused h = record { answers = j; listed = rw (← j) (kept p l (answerOf a) h); scratch = same }
 
-  module _ (h : sink .errors + sink .warnings ≤ 256) (head : ℕ) (e : head ≡ length (ended (spaced (text "list") (decimal (sink .errors) ∷ decimal (sink .warnings) ∷ []) ∷ []))) where
-    pub list-long : length l < head + sink .n → Judged (programOf tree) (judgeDiagnostics (length l) (programOf tree) (analyze (programOf tree))) s l (AnswerValue.Refused 9 0) s′ l
-    list-long g = rw (judged-long (programOf tree) sink k h head e (length l) g) (record { answers = refl; listed = refl; scratch = same })
-
-    pub list-fine : head + sink .n ≤ length l → {s″ l″ : List ℕ} → l″ ≡ sets l 0 (listingOf (textsOf tree) (analyze (programOf tree))) → SameRest s′ s″
-        → Judged (programOf tree) (judgeDiagnostics (length l) (programOf tree) (analyze (programOf tree))) s l (AnswerValue.Accepted (sink .errors) (sink .warnings) (head + sink .n)) s″ l″
-    list-fine g w q =
-        rw (judged-fine (programOf tree) sink k h head e (length l) g)
-        (record {
-          answers = refl;
-          listed = w ∙ rw (← t) (listed-fine (programOf tree) sink k h head e l g);
-          scratch = record { same-length = q .same-length ∙ same .same-length; same-rest = q .same-rest ∙ same .same-rest };
-        })
+  pub list-accepted : Listable sink (length l) → {s″ l″ : List ℕ} → l″ ≡ sets l 0 (listingOf t (analyze p)) → SameRest s′ s″ → Judged p (judgeDiagnostics (length l) p (analyze p)) s l a s″ l″
+  list-accepted f w q =
+      record {
+        answers = j;
+        listed = w ∙ rw (judged-fine p sink k (f .few) (length l) (f .fits), ← e) (listed-fine p sink k (f .few) l (f .fits));
+        scratch = record { same-length = q .same-length ∙ same .same-length; same-rest = q .same-rest ∙ same .same-rest };
+      }
 
 -- of a program: its keys first
 module _ (room : ℕ) (p : Program) (index index′ : List ℕ) (count : ℕ) (k : KeysAdded index index′ count (keys p)) where

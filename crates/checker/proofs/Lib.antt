@@ -2,4 +2,3 @@ pub mod Programs
 pub mod Runs
 pub mod Judging
 pub mod Collecting
-pub mod Staging

@@ -1,21 +1,17 @@
 -- One run of the walk over a whole program, and what it tells. Assumes nothing.
-use Prim.Native.Nat.{ℕ, suc, _+_, _-_, _*_, _≤_, _<_, _/_, _%_, min, zero}
+use Prim.Native.Nat.{ℕ, zero, suc, _+_, _≤_}
 use mathlib.Core.Path.{_≡_, refl, sym, ap, _∙_}
-use mathlib.Core.List.{List, [], _∷_, _++_, append-nil}
+use mathlib.Core.List.{List, _++_}
 use native.Mathlib.Omega.{arith}
-use lib.ListN.{length, drop, take, replicate, length-replicate, length-append}
-use lib.Seq.{drop-drop, sets}
-use Rattle.text.specs.Text.{text}
-use Rattle.text.specs.Decimal.{front, decimal}
+use lib.ListN.{length, drop, take, replicate}
+use lib.Seq.{drop-drop, sets, sets-eq, take-at}
 use Rattle.ast.specs.Tree.{Text, Program, noStmt}
 use Rattle.tree.specs.Ans.{IsOk, nextOf}
 use Rattle.tree.specs.Texts.{texts}
 use Rattle.tree.specs.Stmts.{body, stmt}
 use Rattle.tree.specs.Decode.{textsOf, decode}
 use Rattle.sema.specs.Marks.{Key, noMarks}
-use Rattle.sema.specs.Messages.{Diagnostic, Error, Warning}
 use Rattle.sema.specs.Stmts.{analyze, analyzeStmts, new}
-use Rattle.listing.specs.Listing.{ended, spaced, countOf}
 use Rattle.context.specs.declared.Sink.{Sink}
 use Rattle.context.specs.declared.State.{State}
 use Rattle.context.specs.Sink.{Written, writtenOf, emit}
@@ -26,7 +22,8 @@ use Rattle.accepted.specs.Parts.{valueOr, given-ok}
 use Rattle.promises.specs.Emitted.{Emitted, emitted-as}
 use Rattle.promises.specs.Walks.{BodyWalked, walkBody}
 use Rattle.claims.specs.Claim.{programOf}
-use Rattle.checker.specs.Check.{SameRest, Ran, Learnt, sinkAt}
+use Rattle.verdict.specs.Verdict.{Learnt}
+use Rattle.checker.specs.Check.{SameRest, Ran, Staged, sinkAt}
 use Rattle.checker.proofs.Programs.{program-is, program-body, new-context}
 
 drop-zeros : (n : ℕ) (xs : List ℕ) → drop n (replicate n 0 ++ xs) ≡ xs
@@ -75,21 +72,13 @@ learnt p s o r s′ o′ w =
 pub written : (p : Program) (n : ℕ) (s o : List ℕ) (r : Sink) (s′ o′ : List ℕ) → Ran p n s o r s′ o′ → length (analyze p) ≤ 256 → o′ ≡ sets o n (allBytes (p .texts) (analyze p))
 written p n s o r s′ o′ w h = ap (λ (x : Written). x .out) (w .emitted .says ∙ emit-from (p .texts) (analyze p) o n (omega arith))
 
--- a count below 257 has few digits
-front-short : (bound n : ℕ) → length (front bound n) ≤ n
-unfolding front
-front-short zero n = omega arith
-front-short (suc bound) zero = omega arith
-front-short (suc bound) (suc n) = omega (arith, front-short bound (suc n / 10), length-append (front bound (suc n / 10)) ((48 + suc n % 10) ∷ []))
-
-decimal-short : (n : ℕ) → length (decimal n) ≤ suc n
-unfolding decimal
-decimal-short n = omega (arith, front-short (n / 10) (n / 10), length-append (front (n / 10) (n / 10)) ((48 + n % 10) ∷ []))
-
-pub head-short : (e w : ℕ) → e ≤ 256 → w ≤ 256 → length (ended (spaced (text "list") (decimal e ∷ decimal w ∷ []) ∷ [])) ≤ 1024
-unfolding ended spaced
-head-short e w a b =
-    omega (arith, length-append (decimal e ++ (32 ∷ decimal w)) (10 ∷ []), length-append (decimal e) (32 ∷ decimal w), decimal-short e, decimal-short w)
-
-pub head-within : (e w n : ℕ) → n ≡ 0 + length (ended (spaced (text "list") (decimal e ∷ decimal w ∷ []) ∷ [])) → e + w ≤ 256 → n ≤ 1024
-head-within e w n h b = omega (arith, h, head-short e w (omega arith) (omega arith))
+-- and what it keeps in a stage that has room
+pub staged : (p : Program) (s o : List ℕ) (r : Sink) (s′ o′ : List ℕ) → Ran p 0 s o r s′ o′ → length o′ ≡ length o → Staged p r o′
+staged p s o r s′ o′ w e =
+    record {
+      lines = λ f g.
+          let xs = allBytes (p .texts) (analyze p) in
+          let b : r .n ≡ length xs = learnt p s o r s′ o′ w .bytes f in
+          let a : o′ ≡ xs ++ drop (0 + length xs) o = written p 0 s o r s′ o′ w f ∙ sets-eq xs o 0 (omega (arith, b)) in
+          rw a (take-at xs (drop (0 + length xs) o) (r .n) (sym b));
+    }

@@ -3,10 +3,10 @@ use context::Sink;
 use context::State;
 use keys::Keys;
 use reader::Validated;
+use verdict::Answer;
 ghost use mathlib.Core.Path.{_≡_};
-ghost use mathlib.Core.List.{[], _∷_};
 ghost use Prim.Native.Nat.{ℕ, _+_, _≤_, _<_};
-ghost use lib.ListN.{length, take};
+ghost use lib.ListN.{length};
 ghost use Rattle.tree.specs.Ans.{IsOk, nextOf};
 ghost use Rattle.tree.specs.Texts.{texts};
 ghost use Rattle.tree.specs.Decode.{textsOf, decode};
@@ -16,16 +16,10 @@ ghost use Rattle.answer.specs.Answer.{accepted, answer, judgeDiagnostics, judge
 ghost use Rattle.claims.specs.Claim.{programOf, Claim};
 ghost use Rattle.context.specs.View.{keysIn};
 ghost use Rattle.promises.specs.Walks.{Walkable};
-ghost use Rattle.text.specs.Text.{text};
-ghost use Rattle.text.specs.Decimal.{decimal};
-ghost use Rattle.listing.specs.Listing.{ended, spaced, listingOf};
+ghost use Rattle.listing.specs.Listing.{listingOf};
 ghost use lib.Seq.{sets};
-ghost use Rattle.checker.specs.Check.{answerOf, SameRest, Judged, JudgedFile, Ran, Learnt, Staged};
-
-pub enum Answer {
-    Accepted(usize, usize, usize),
-    Refused(u8, usize),
-}
+ghost use Rattle.verdict.specs.Verdict.{answerOf, Learnt, Listable};
+ghost use Rattle.checker.specs.Check.{SameRest, Judged, JudgedFile, Ran, Staged};
 
 // Lines of so many bytes need one walk.
 const STAGE: usize = 8192;
@@ -72,18 +66,9 @@ fn learn(
     at: usize,
 ) -> Sink
     requires { ⌜ Walkable (now tree) (now index) keys × (65536 ≤ length (now scratch)) × IsOk (decode (now tree)) × (at ≡ nextOf (texts (now tree) 0)) × (keysIn (now index) keys ≡ keysOf (programOf (now tree))) ⌝ }
-    ensures { λ r. ⌜ Learnt (programOf (now (tree .entry))) r × SameRest (now (scratch .entry)) (now (scratch .exit)) × Staged (programOf (now (tree .entry))) (now (stage .entry)) (now (stage .exit)) ⌝ }
+    ensures { λ r. ⌜ Learnt (programOf (now (tree .entry))) r × SameRest (now (scratch .entry)) (now (scratch .exit)) × Staged (programOf (now (tree .entry))) r (now (stage .exit)) ⌝ }
 {
     run(tree, index, scratch, stage, keys, at, 0)
-}
-
-// The length of the first line.
-fn head_size(errors: usize, warnings: usize) -> usize
-    requires { ⌜ (errors ≤ 256) × (warnings ≤ 256) ⌝ }
-    ensures { λ r. ⌜ (r ≡ length (ended (spaced (text "list") (decimal errors ∷ decimal warnings ∷ []) ∷ []))) × (r ≤ 1024) ⌝ }
-{
-    let mut none = [0u8; 1];
-    lines::first_line(&mut none, errors, warnings)
 }
 
 // The second walk writes: the counts of the first are known, and the buffer has room.
@@ -104,16 +89,29 @@ fn write(
     run(tree, index, scratch, listing, keys, at, head);
 }
 
-// The lines that the stage had room for, behind the first line.
-fn write_staged(stage: &[u8], listing: &mut [u8], sink: Sink)
-    requires { ⌜ (sink .n ≤ length (now stage)) × (length (ended (spaced (text "list") (decimal (sink .errors) ∷ decimal (sink .warnings) ∷ []) ∷ [])) + sink .n ≤ length (now listing)) ⌝ }
-    ensures { λ _. ⌜ now (listing .exit) ≡ sets (sets (now (listing .entry)) 0 (ended (spaced (text "list") (decimal (sink .errors) ∷ decimal (sink .warnings) ∷ []) ∷ []))) (length (ended (spaced (text "list") (decimal (sink .errors) ∷ decimal (sink .warnings) ∷ []) ∷ []))) (take (sink .n) (now (stage .entry))) ⌝ }
+// The lines that the stage had room for, or those of a second walk.
+fn write_listing(
+    tree: &[u8],
+    index: &[u64],
+    scratch: &mut [u8],
+    stage: &[u8],
+    listing: &mut [u8],
+    keys: usize,
+    at: usize,
+    sink: Sink,
+)
+    requires { ⌜ Walkable (now tree) (now index) keys × (65536 ≤ length (now scratch)) × IsOk (decode (now tree)) × (at ≡ nextOf (texts (now tree) 0)) × (keysIn (now index) keys ≡ keysOf (programOf (now tree))) ⌝ }
+    requires { ⌜ Learnt (programOf (now tree)) sink × Listable sink (length (now listing)) × Staged (programOf (now tree)) sink (now stage) ⌝ }
+    ensures { λ _. ⌜ (now (listing .exit) ≡ sets (now (listing .entry)) 0 (listingOf (textsOf (now (tree .entry))) (analyze (programOf (now (tree .entry)))))) × SameRest (now (scratch .entry)) (now (scratch .exit)) ⌝ }
 {
-    let after = lines::first_line(listing, sink.errors, sink.warnings);
-    bytes::copy(&stage[..sink.n], &mut listing[after..]);
+    if sink.n <= stage.len() {
+        verdict::write_staged(stage, listing, sink);
+    } else {
+        write(tree, index, scratch, listing, keys, at, sink);
+    }
 }
 
-// The first walk learns the counts and the length. A second writes where the stage had too little room.
+// The first walk learns the counts and the length; the listing is written where they are accepted.
 fn list(
     tree: &[u8],
     index: &[u64],
@@ -127,19 +125,11 @@ fn list(
 {
     let mut stage = [0u8; STAGE];
     let sink = learn(tree, index, scratch, &mut stage, keys, at);
-    if 256 < sink.errors + sink.warnings {
-        return Answer::Refused(8, 0);
+    let a = verdict::judge(sink, listing.len());
+    if verdict::accepts(a) {
+        write_listing(tree, index, scratch, &stage, listing, keys, at, sink);
     }
-    let size = head_size(sink.errors, sink.warnings) + sink.n;
-    if listing.len() < size {
-        return Answer::Refused(9, 0);
-    }
-    if sink.n <= STAGE {
-        write_staged(&stage, listing, sink);
-    } else {
-        write(tree, index, scratch, listing, keys, at, sink);
-    }
-    Answer::Accepted(sink.errors, sink.warnings, size)
+    a
 }
 
 // A file that was accepted: its texts placed, its keys collected, its listing.

@@ -7,5 +7,6 @@ fn main() {
     let mut scratch = io::large_buffer();
     let mut listing = io::large_buffer();
     let n = io::read_full(STDIN_FILENO, &mut space);
-    output::list(&space[..n], &mut scratch, &mut listing);
+    let a = checker::check(&space[..n], &mut scratch, &mut listing);
+    output::print(a, &listing);
 }

@@ -9,7 +9,8 @@ fn list_next(space: &mut [u8], scratch: &mut [u8], listing: &mut [u8]) -> bool {
     match cases::next(space) {
         Case::End => false,
         Case::Tree(n) => {
-            output::list(&space[..n], scratch, listing);
+            let a = checker::check(&space[..n], scratch, listing);
+            output::print(a, listing);
             true
         }
     }

@@ -1,10 +1,11 @@
-// Prints what a call of the checker answers: the listing, or refused, number and place.
-use checker::Answer;
+// Prints an answer of the checker: the listing, or refused, number and place.
 use libc::STDOUT_FILENO;
+use verdict::Answer;
 ghost use mathlib.Core.Path.{_≡_};
+ghost use Prim.Native.Nat.{ℕ, _≤_};
 ghost use lib.ListN.{length};
-ghost use Rattle.answer.specs.Answer.{answer, listingAfter, scratchAfter};
-ghost use Rattle.checker.specs.Check.{answerOf};
+ghost use Rattle.answer.specs.Answer.{accepted};
+ghost use Rattle.verdict.specs.Verdict.{answerOf};
 
 fn print_refusal(number: u8, place: usize) {
     io::write_all(STDOUT_FILENO, b"refused ");
@@ -14,18 +15,14 @@ fn print_refusal(number: u8, place: usize) {
     io::write_all(STDOUT_FILENO, b"\n");
 }
 
-// Lists a tree to standard output, and answers as the checker does.
-pub fn list(tree: &[u8], scratch: &mut [u8], listing: &mut [u8]) -> Answer
-    ensures answers { λ r. ⌜ answerOf r ≡ answer (now (tree .entry)) (length (now (scratch .entry))) (length (now (listing .entry))) ⌝ }
-    ensures listed { λ _. ⌜ now (listing .exit) ≡ listingAfter (now (tree .entry)) (now (listing .entry)) (answer (now (tree .entry)) (length (now (scratch .entry))) (length (now (listing .entry)))) ⌝ }
-    ensures cleared { λ _. ⌜ now (scratch .exit) ≡ scratchAfter (now (scratch .entry)) ⌝ }
+// The listing stands at the beginning of its buffer.
+pub fn print(a: Answer, listing: &[u8])
+    requires { ⌜ ((errors warnings size : ℕ) → answerOf a ≡ accepted errors warnings size → size ≤ length (now listing)) ⌝ }
 {
-    let a = checker::check(tree, scratch, listing);
     match a {
         Answer::Refused(number, place) => print_refusal(number, place),
         Answer::Accepted(_, _, size) => {
             io::write_all(STDOUT_FILENO, &listing[..size]);
         }
     }
-    a
 }

@@ -1,11 +1,11 @@
 // The checker for C: include/puntsalak.h.
-use checker::Answer;
+use verdict::Answer;
 ghost use mathlib.Core.Path.{_≡_};
 ghost use Prim.Native.Nat.{ℕ};
 ghost use lib.ListN.{length};
 ghost use Rattle.answer.specs.Answer.{accepted, answer as answerTo, listingAfter, scratchAfter};
 ghost use Rattle.claims.specs.Claim.{Claim};
-ghost use Rattle.checker.specs.Check.{answerOf};
+ghost use Rattle.verdict.specs.Verdict.{answerOf};
 ghost use Rattle.puntsalak.specs.Four.{fourOf};
 
 // The four numbers of an answer.

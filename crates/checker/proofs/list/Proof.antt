@@ -1,9 +1,8 @@
 -- `checker::list` meets its contract. Assumes nothing.
+use mathlib.Core.Path.{sym, _∙_}
 use native.Mathlib.Omega.{arith}
-use mathlib.Core.Path.{refl}
 use Rattle.checker.proofs.Programs.{program-texts}
-use Rattle.checker.proofs.Judging.{list-many, list-long, list-fine}
-use Rattle.checker.proofs.Staging.{staged-written}
+use Rattle.checker.proofs.Judging.{list-refused, list-accepted}
 use borrow.Author.Needs.{needs}
 use Rattle.checker.proofs.list.Statement.{statement}
 use Rattle.checker.proofs.list.Tie as tie
@@ -12,20 +11,13 @@ pub list-spec : {M : Type 1} → statement M
 list-spec =
     tie.close (tie.spec
     (λ c. search needs)  -- slice-aggregate-learn
-    (λ c κs. (c .before .before .before .before .before .before .pre .0, c .before .before .before .before .before .before .pre .1, c .before .before .before .before .before .before .pre .2, c .before .before .before .before .before .before .pre .3, c .before .before .before .before .before .before .pre .4))  -- learn-requires
-    (λ c. omega (arith, c .before .before .before .before .learn .ensures .0 .fits .few))  -- add-if1
+    (λ c κs. search needs)  -- learn-requires
+    (λ c κs. search needs)  -- judge-requires
+    (λ c κs. search needs)  -- accepts-requires
+    (λ c. search needs)  -- slice-aggregate-write-listing
+    (λ c κs. let p = c .before .before .before .before .before .before .before .before .before .before .before .before .before .before .before .before .pre in let l = c .before .before .before .before .before .before .before .before .before .learn .ensures in ((p .0, omega (arith, p .1, l .1 .same-length), p .2, p .3, p .4), (l .0, c .before .before .before .before .before .judge .ensures .1 (sym (c .before .before .before .before .accepts .ensures) ∙ c .before .before .before .if1 .taken), l .2)))  -- write-listing-requires
     (λ c. search needs)  -- same-length
-    (λ c. list-many _ (program-texts _ (c .before .before .before .before .before .before .before .before .before .before .before .before .pre .2) _ (c .before .before .before .before .before .before .before .before .before .before .before .before .pre .3)) _ (c .before .before .before .before .before .learn .ensures .0) (c .before .before .before .before .before .learn .ensures .1) (c .if1 .taken))  -- returns
-    (λ c κs. (omega (arith, c .if1 .left), omega (arith, c .if1 .left)))  -- head-size-requires
-    (λ c. omega (arith, c .before .head-size .ensures .1, c .before .before .before .before .before .before .before .learn .ensures .0 .fits .short, c .before .before .if1 .left))  -- add-size
     (λ c. search needs)  -- same-length-2
-    (λ c. list-long _ (program-texts _ (c .before .before .before .before .before .before .before .before .before .before .before .before .before .before .before .pre .2) _ (c .before .before .before .before .before .before .before .before .before .before .before .before .before .before .before .pre .3)) _ (c .before .before .before .before .before .before .before .before .learn .ensures .0) (c .before .before .before .before .before .before .before .before .learn .ensures .1) (c .before .before .before .if1 .left) _ (c .before .before .head-size .ensures .0) (c .if2 .taken))  -- returns-2
-    (λ c. search needs)  -- slice-aggregate-write-staged
-    (λ c κs. (omega (arith, c .before .before .if3 .taken), omega (arith, c .before .before .before .before .before .before .head-size .ensures .0, c .before .before .before .before .if2 .left)))  -- write-staged-requires
-    (λ c κs. ((c .before .before .before .before .before .before .before .before .before .before .before .before .before .before .before .before .before .before .before .pre .0, omega (arith, c .before .before .before .before .before .before .before .before .before .before .before .before .before .before .before .before .before .before .before .pre .1, c .before .before .before .before .before .before .before .before .before .before .before .before .learn .ensures .1 .same-length), c .before .before .before .before .before .before .before .before .before .before .before .before .before .before .before .before .before .before .before .pre .2, c .before .before .before .before .before .before .before .before .before .before .before .before .before .before .before .before .before .before .before .pre .3, c .before .before .before .before .before .before .before .before .before .before .before .before .before .before .before .before .before .before .before .pre .4), (c .before .before .before .before .before .before .before .before .before .before .before .before .learn .ensures .0, c .before .before .before .before .before .before .before .if1 .left)))  -- write-requires
+    (λ c. let p = c .before .before .before .before .before .before .before .before .before .before .before .before .before .before .before .before .before .before .before .before .before .pre in let l = c .before .before .before .before .before .before .before .before .before .before .before .before .before .before .learn .ensures in let j = c .before .before .before .before .before .before .before .before .before .before .judge .ensures in let w = c .before .before .before .before .write-listing .ensures in list-accepted _ _ (program-texts _ (p .2) _ (p .3)) _ (l .0) (l .1) _ (j .0 _ (l .0)) (j .1 (sym (c .before .before .before .before .before .before .before .before .before .accepts .ensures) ∙ c .before .before .before .before .before .before .before .before .if1 .taken)) (w .0) (w .1))  -- returns
     (λ c. search needs)  -- same-length-3
-    (λ c. search needs)  -- same-length-4
-    (λ c. list-fine _ (program-texts _ (c .before .before .before .before .before .before .before .before .before .before .before .before .before .before .before .before .before .before .before .before .before .before .pre .2) _ (c .before .before .before .before .before .before .before .before .before .before .before .before .before .before .before .before .before .before .before .before .before .before .pre .3)) _ (c .before .before .before .before .before .before .before .before .before .before .before .before .before .before .before .learn .ensures .0) (c .before .before .before .before .before .before .before .before .before .before .before .before .before .before .before .learn .ensures .1) (c .before .before .before .before .before .before .before .before .before .before .if1 .left) _ (c .before .before .before .before .before .before .before .before .before .head-size .ensures .0) (c .before .before .before .before .before .before .before .if2 .left) (staged-written _ _ (c .before .before .before .before .before .before .before .before .before .before .before .before .before .before .before .learn .ensures .0) (c .before .before .before .before .before .before .before .before .before .before .if1 .left) _ (program-texts _ (c .before .before .before .before .before .before .before .before .before .before .before .before .before .before .before .before .before .before .before .before .before .before .pre .2) _ (c .before .before .before .before .before .before .before .before .before .before .before .before .before .before .before .before .before .before .before .before .before .before .pre .3)) _ _ _ _ (c .before .before .before .before .before .before .before .before .before .before .before .before .before .before .before .learn .ensures .2) (omega (arith, c .before .before .before .before .before .if3 .taken)) (c .before .before .write-staged .ensures)) (record { same-length = refl; same-rest = refl }))  -- returns-3
-    (λ c. search needs)  -- same-length-5
-    (λ c. search needs)  -- same-length-6
-    (λ c. list-fine _ (program-texts _ (c .before .before .before .before .before .before .before .before .before .before .before .before .before .before .before .before .before .before .before .before .before .before .before .before .pre .2) _ (c .before .before .before .before .before .before .before .before .before .before .before .before .before .before .before .before .before .before .before .before .before .before .before .before .pre .3)) _ (c .before .before .before .before .before .before .before .before .before .before .before .before .before .before .before .before .before .learn .ensures .0) (c .before .before .before .before .before .before .before .before .before .before .before .before .before .before .before .before .before .learn .ensures .1) (c .before .before .before .before .before .before .before .before .before .before .before .before .if1 .left) _ (c .before .before .before .before .before .before .before .before .before .before .before .head-size .ensures .0) (c .before .before .before .before .before .before .before .before .before .if2 .left) (c .before .before .before .before .write .ensures .0) (c .before .before .before .before .write .ensures .1)))  -- returns-4
+    (λ c. let p = c .before .before .before .before .before .before .before .before .before .before .before .before .before .pre in let l = c .before .before .before .before .before .before .learn .ensures in list-refused _ _ (program-texts _ (p .2) _ (p .3)) _ (l .0) (l .1) _ (c .before .before .judge .ensures .0 _ (l .0)) (sym (c .before .accepts .ensures) ∙ c .if1 .left)))  -- returns-2

@@ -1,9 +1,9 @@
 -- `checker::write` meets its contract. Assumes nothing.
 use native.Mathlib.Omega.{arith}
 use mathlib.Core.Path.{refl, sym, _∙_}
-use Rattle.checker.proofs.Judging.{few-of, listing-written}
+use Rattle.checker.proofs.Judging.{listing-written}
 use Rattle.checker.proofs.Programs.{program-texts}
-use Rattle.checker.proofs.Runs.{head-within}
+use Rattle.verdict.proofs.Heads.{head-within}
 use borrow.Author.Needs.{needs}
 use Rattle.checker.proofs.write.Statement.{statement}
 use Rattle.checker.proofs.write.Tie as tie

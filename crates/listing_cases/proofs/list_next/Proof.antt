@@ -1,8 +1,9 @@
 -- `listing_cases::list_next` meets its contract. Assumes nothing.
-use mathlib.Core.Path.{sym, ap}
+use mathlib.Core.Path.{sym, ap, _∙_}
 use native.Mathlib.Omega.{arith}
 use lib.Seq.{length-take-le}
 use Rattle.cases.specs.Case.{sizeOf}
+use Rattle.claims.proofs.Demand3.{accepted-room}
 use borrow.Author.Needs.{needs}
 use Rattle.listing_cases.proofs.list_next.Statement.{statement}
 use Rattle.listing_cases.proofs.list_next.Tie as tie
@@ -13,9 +14,10 @@ list-next-spec =
     (λ c κs. search needs)  -- next-requires
     (λ c. search needs)  -- enum-told
     (λ c. search needs)  -- enum-known-n
-    (λ c. omega (arith, c .before .before .before .before .before .next .ensures, ap sizeOf (c .before .n .given .1), c .before .before .before .before .space .given))  -- slice-reshare-prefix-list
-    (λ c. sym (length-take-le _ _ (omega (arith, c .before .before .before .before .before .before .next .ensures, ap sizeOf (c .before .before .n .given .1), c .before .before .before .before .before .space .given))))  -- slice-aggregate-list
-    (λ c κs. search needs)  -- list-requires
+    (λ c. omega (arith, c .before .before .before .before .before .next .ensures, ap sizeOf (c .before .n .given .1), c .before .before .before .before .space .given))  -- slice-reshare-prefix-check
+    (λ c. sym (length-take-le _ _ (omega (arith, c .before .before .before .before .before .before .next .ensures, ap sizeOf (c .before .before .n .given .1), c .before .before .before .before .before .space .given))))  -- slice-aggregate-check
+    (λ c κs. search needs)  -- check-requires
+    (λ c κs errors warnings size h. omega (arith, accepted-room _ _ _ _ _ _ (sym (c .before .before .before .before .before .check .ensures .0) ∙ h), c .before .before .listing .given))  -- print-requires
     (λ c. search needs)  -- same-length
     (λ c. search needs)  -- returns
     (λ c. search needs)  -- same-length-2

@@ -1,11 +1,11 @@
--- `checker::write_staged` meets its contract. Assumes nothing.
+-- `verdict::write_staged` meets its contract. Assumes nothing.
 use mathlib.Core.Path.{sym}
 use native.Mathlib.Omega.{arith}
 use lib.Seq.{length-take-le}
-use Rattle.checker.proofs.Staging.{staged-room, staged-behind}
+use Rattle.verdict.proofs.Staging.{staged-room, staged-behind}
 use borrow.Author.Needs.{needs}
-use Rattle.checker.proofs.write_staged.Statement.{statement}
-use Rattle.checker.proofs.write_staged.Tie as tie
+use Rattle.verdict.proofs.write_staged.Statement.{statement}
+use Rattle.verdict.proofs.write_staged.Tie as tie
 
 pub write-staged-spec : {M : Type 1} → statement M
 write-staged-spec =

@@ -1,9 +1,9 @@
--- `checker::head_size` meets its contract. Assumes nothing.
+-- `verdict::head_size` meets its contract. Assumes nothing.
 use native.Mathlib.Omega.{arith}
-use Rattle.checker.proofs.Runs.{head-short}
+use Rattle.verdict.proofs.Heads.{head-short}
 use borrow.Author.Needs.{needs}
-use Rattle.checker.proofs.head_size.Statement.{statement}
-use Rattle.checker.proofs.head_size.Tie as tie
+use Rattle.verdict.proofs.head_size.Statement.{statement}
+use Rattle.verdict.proofs.head_size.Tie as tie
 
 pub head-size-spec : {M : Type 1} → statement M
 head-size-spec =
