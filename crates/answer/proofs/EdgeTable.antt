@@ -2,7 +2,7 @@
 use Prim.Native.Nat.{ℕ}
 use mathlib.Core.Path.{_≡_, refl}
 use mathlib.Core.List.{List, [], _∷_, map, flatten}
-use Rattle.answer.specs.Edges.{Edge, no-statements, qubit-declaration, keys-256, keys-257, levels-8, levels-9, expression-levels-32, expression-levels-33, gate-on-q-after-measure-of-index-0, slice-1-0-marks-nothing, slice-1-0-is-covered-by-none, measure-of-size-0, measure-in-one-arm, loop-body-once, power-has-value, power-has-none, quotient-towards-zero, control-count-0, example}
+use Rattle.answer.specs.Edges.{Edge, no-statements, qubit-declaration, keys-256, keys-257, levels-8, levels-9, expression-levels-32, expression-levels-33, gate-on-q-after-measure-of-index-0, slice-1-0-marks-nothing, slice-1-0-is-covered-by-none, measure-of-size-0, measure-of-size-0-sets-no-index, measure-in-one-arm, loop-body-once, power-has-value, power-has-none, quotient-towards-zero, control-count-0, example}
 use Rattle.tree.specs.Ans.{bind, _>>=_, _>>_, done, here, refuse, check}
 use Rattle.tree.specs.Read.{within, byte, bytes, value, number, span, caseByte, oneOf, bool, optionCase, option, repeat, count, counted}
 use Rattle.tree.specs.Texts.{allowed, same, among, text, moreTexts, texts, letter, digit, every, digits, isName, fraction, isFloat, isPath}
@@ -42,6 +42,7 @@ edges =
     ∷ slice-1-0-marks-nothing
     ∷ slice-1-0-is-covered-by-none
     ∷ measure-of-size-0
+    ∷ measure-of-size-0-sets-no-index
     ∷ measure-in-one-arm
     ∷ loop-body-once
     ∷ power-has-value
@@ -58,5 +59,5 @@ computed e =
     record { tree = e .tree; answers = answer (e .tree) 65536 65536; listing = listingAfter (e .tree) [] (answer (e .tree) 65536 65536) }
 
 pub edges-hold : map computed edges ≡ edges
-unfolding computed edges no-statements qubit-declaration keys-256 keys-257 levels-8 levels-9 expression-levels-32 expression-levels-33 gate-on-q-after-measure-of-index-0 slice-1-0-marks-nothing slice-1-0-is-covered-by-none measure-of-size-0 measure-in-one-arm loop-body-once power-has-value power-has-none quotient-towards-zero control-count-0 example
+unfolding computed edges no-statements qubit-declaration keys-256 keys-257 levels-8 levels-9 expression-levels-32 expression-levels-33 gate-on-q-after-measure-of-index-0 slice-1-0-marks-nothing slice-1-0-is-covered-by-none measure-of-size-0 measure-of-size-0-sets-no-index measure-in-one-arm loop-body-once power-has-value power-has-none quotient-towards-zero control-count-0 example
 edges-hold = refl

@@ -105,6 +105,20 @@ measure-of-size-0 = record {
       ∷ []);
 }
 
+-- the whole key and 255 indices are 256 keys: no index is set besides
+unfoldable pub measure-of-size-0-sets-no-index : Edge
+measure-of-size-0-sets-no-index = record {
+  tree = file (qubit (some 0) 0 ∷ measure whole 1 ∷ measure (slice 1 255) 2 ∷ []);
+  answers = accepted 1 1 148;
+  listing =
+      lines
+      ("list 1 1"
+      ∷ "E 0 0 slice 1:255 is out of bounds for `q` (size 0)"
+      ∷ "N 0 9 `q` declared with size 0 here"
+      ∷ "W 20 29 qubit `q[1:255]` has already been measured"
+      ∷ []);
+}
+
 unfoldable pub measure-in-one-arm : Edge
 measure-in-one-arm = record {
   tree = file (qubit none 0 ∷ if (measure whole 2 ∷ []) 1 ∷ h whole 3 ∷ []);

@@ -126,7 +126,8 @@ fn list(
     let mut stage = [0u8; STAGE];
     let sink = learn(tree, index, scratch, &mut stage, keys, at);
     let a = verdict::judge(sink, listing.len());
-    if verdict::accepts(a) {
+    let fits = verdict::accepts(a);
+    if fits {
         write_listing(tree, index, scratch, &stage, listing, keys, at, sink);
     }
     a
@@ -141,10 +142,11 @@ fn check_program(tree: &[u8], scratch: &mut [u8], listing: &mut [u8]) -> Answer
     let at = index::place_texts(tree, &mut index);
     tables::clear(scratch);
     let k = keys::collect(tree, &mut index, scratch, 8, Keys { at, count: 0 });
-    if 256 < k.count {
+    let count = k.count;
+    if 256 < count {
         return Answer::Refused(7, 0);
     }
-    list(tree, &index, scratch, listing, k.count, at)
+    list(tree, &index, scratch, listing, count, at)
 }
 
 // Any bytes: refused as the file is read, or judged as a program.
