@@ -34,10 +34,6 @@ joined xs ys s t u at n l e f = f ∙ rw (e, ← l) (sym (sets-append xs ys s at
 pub span-stored : (s t u : List ℕ) (at : ℕ) (sp : Span) → t ≡ sets s at (big 4 (sp .start)) → u ≡ sets t (at + 4) (big 4 (sp .end)) → u ≡ sets s at (spanBytes sp)
 span-stored s t u at sp e f = joined (big 4 (sp .start)) (big 4 (sp .end)) s t u at 4 (length-big 4 (sp .start)) e f
 
-pub length-span : (sp : Span) → length (spanBytes sp) ≡ 8
-unfolding big
-length-span sp = refl
-
 length-size : (z : Option ℕ) → length (sizeBytes z) ≡ 9
 unfolding big
 length-size none = refl
