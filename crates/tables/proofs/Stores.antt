@@ -17,7 +17,7 @@ use Rattle.tree.specs.Fits.{NumberFits, OptionFits}
 use Rattle.sema.specs.Symbols.{Symbol, GateSig}
 use Rattle.context.specs.declared.Number.{Number}
 use Rattle.context.specs.Values.{numberOf as sizeOf}
-use Rattle.tables.specs.Entries.{codeOf, spanBytes, sizeBytes, symbolBytes, gateBytes, typeBytes, functionBytes, emptied}
+use Rattle.tables.specs.Entries.{codeOf, spanBytes, sizeBytes, symbolBytes, gateBytes, typeBytes, functionBytes}
 use Rattle.tables.specs.Tables.{cleared}
 use Rattle.tree.proofs.Back.{length-big}
 
@@ -110,26 +110,6 @@ module _ {s : List ℕ} {to : ℕ} {tree : List ℕ} {at count : ℕ} {t : List 
   pub copying-end : count ≤ i → t ≡ sets s to (typeBytes tree at count)
   unfolding typeBytes
   copying-end h = let e : count - i ≡ 0 = omega arith in rw e at (r .same)
-
--- of the entries of a level some are still to be emptied
-pub record Emptying (s : List ℕ) (base : ℕ) (t : List ℕ) (at left : ℕ) : Type 0 where
-  pub within : at + left * 18 ≡ base + 4608
-  pub size : length t ≡ length s
-  pub same : emptied t at left ≡ emptied s base 256
-
-pub emptying-start : (s : List ℕ) (base : ℕ) → Emptying s base s base 256
-emptying-start s base = record { within = refl; size = refl; same = refl }
-
-module _ {s : List ℕ} {base : ℕ} {t : List ℕ} {at left : ℕ} (r : Emptying s base t at left) where
-  pub emptying-more : 0 < left → Emptying s base (set t at 0) (at + 18) (left - 1)
-  unfolding emptied
-  emptying-more h =
-      let e : left ≡ suc (left - 1) = omega arith in
-      record { within = omega (arith, r .within); size = length-set t at 0 ∙ r .size; same = rw e at (r .same) }
-
-  pub emptying-end : left ≤ 0 → t ≡ emptied s base 256
-  unfolding emptied
-  emptying-end h = let e : left ≡ 0 = omega arith in rw e at (r .same)
 
 -- the first i bytes are cleared
 pub record Clearing (s t : List ℕ) (i : ℕ) : Type 0 where
