@@ -1,20 +1,22 @@
 -- What accepted operands, modifiers, ranges and parameters say of their parts, and which values they are. Assumes nothing.
 use Prim.Native.Nat.{ℕ, zero, suc, _+_, _≤_, _<_}
-use mathlib.Core.Path.{_≡_, refl}
+use mathlib.Core.Path.{_≡_, refl, sym, ap, _∙_}
 use mathlib.Core.List.{List, [], _∷_}
 use mathlib.Core.Option.{none, some}
 use mathlib.Core.Logic.{_⊎_, inl, inr, ⊎-elim}
 use native.Mathlib.Omega.{arith}
 use lib.ListN.{length, getD}
-use Rattle.ast.specs.Tree.{Text, GateModifier}
+use Rattle.ast.specs.Tree.{Text, GateOperand as Operand, GateModifier}
 use Rattle.tree.specs.Ans.{ok, refuse, IsOk, nextOf}
 use Rattle.tree.specs.Read.{u64, span, option}
 use Rattle.tree.specs.Texts.{isName}
 use Rattle.tree.specs.Exprs.{name}
 use Rattle.tree.specs.Stmts.{classicalType, qualifier, slice, operand, held, ctrl, negCtrl, inv, pow, modifier, forRange, param}
+use Rattle.context.specs.declared.GateOperand.{GateOperand}
+use Rattle.context.specs.Values.{operandOf}
 use Rattle.context.specs.View.{numberAt, spanAt, typeOf}
-use Rattle.accepted.specs.Cases.{qualifierOf, blank}
-use Rattle.accepted.specs.Parts.{valueOr, end-in, Goes, start, field, known, past, ends}
+use Rattle.accepted.specs.Cases.{qualifierOf, blank, blankOperand}
+use Rattle.accepted.specs.Parts.{valueOr, is-ok, value-is, end-in, Goes, start, field, known, past, ends}
 use Rattle.accepted.specs.Fields.{number-in, number-is, span-is, one-in, one-is, choice-in, choice-below, choice, text-in, text-below, text-is, option-known, option-held}
 use Rattle.accepted.specs.Ends.{Moves, seq-moves, last-moves, number-moves, span-moves, one-moves, text-moves, option-moves, none-left, and, each-moves, refuse-moves, choice-moves}
 use Rattle.accepted.specs.Exprs.{expr-moves}
@@ -126,6 +128,14 @@ module _ (t : List Text) (s : List ℕ) (at : ℕ) (h : IsOk (operand t s at)) w
 
       pub operand-inside : m + 8 ≤ length s
       operand-inside = end-in operand-is (operand-end t s at h)
+
+-- the name of an operand that was read is one of the file's
+pub operand-below : (t : List Text) (s : List ℕ) (at : ℕ) (op : GateOperand) {k : ℕ} → operand t s at ≡ ok (operandOf op) k → op .name < length t
+operand-below t s at op e =
+    let h = is-ok e in
+    let is = value-is (operand-is t s at h _ refl _ refl) blankOperand in
+    let same : op .name ≡ numberAt 2 s at = ap (λ (q : Operand). q .name) (sym (value-is e blankOperand) ∙ is) in
+    rw same (operand-name t s at h)
 
 module _ (t : List Text) (s : List ℕ) (at : ℕ) (h : IsOk (forRange t s at)) where
   pub forRange-start : IsOk (held t s at)

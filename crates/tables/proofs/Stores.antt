@@ -4,7 +4,6 @@ use mathlib.Core.Path.{_≡_, refl, sym, ap, _∙_, subst}
 use mathlib.Core.List.{List, [], _∷_, _++_, append-nil}
 use mathlib.Core.Option.{Option, none, some}
 use native.Mathlib.Omega.{arith}
-use native.Mathlib.Nat.{add-zero}
 use native.Mathlib.Numerals.{add-one, towards-suc}
 use lib.ListN.{length, getD, set, drop, replicate, length-set}
 use lib.Seq.{sets}
@@ -19,13 +18,8 @@ use Rattle.context.specs.declared.Number.{Number}
 use Rattle.context.specs.Values.{numberOf as sizeOf}
 use Rattle.tables.specs.Entries.{codeOf, spanBytes, sizeBytes, symbolBytes, gateBytes, typeBytes, functionBytes}
 use Rattle.tables.specs.Tables.{cleared}
+use Rattle.text.proofs.Sets.{sets-append}
 use Rattle.tree.proofs.Back.{length-big}
-
-sets-append : (xs ys : List ℕ) (s : List ℕ) (at : ℕ) → sets s at (xs ++ ys) ≡ sets (sets s at xs) (at + length xs) ys
-sets-append [] ys s at = rw (add-zero at)
-sets-append (x ∷ xs) ys s at =
-    let e : suc at + length xs ≡ at + suc (length xs) = omega arith in
-    sets-append xs ys (set s at x) (suc at) ∙ rw e
 
 -- two runs of stores, one behind the other
 pub joined : (xs ys : List ℕ) (s t u : List ℕ) (at n : ℕ) → length xs ≡ n → t ≡ sets s at xs → u ≡ sets t (at + n) ys → u ≡ sets s at (xs ++ ys)
