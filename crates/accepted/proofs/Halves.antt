@@ -4,9 +4,8 @@ use mathlib.Core.Path.{_≡_, sym, _∙_}
 use mathlib.Core.List.{List}
 use native.Mathlib.Omega.{arith}
 use lib.ListN.{length, getD}
-use Rattle.context.specs.View.{numberAt, spanAt}
+use Rattle.context.specs.View.{numberAt}
 use Rattle.accepted.specs.Numbers.{one-byte, number-join}
-use Rattle.span.specs.declared.Span.{Span}
 
 pub halves : (width : ℕ) (s : List ℕ) (at : ℕ) {a b : ℕ} → at + width + width ≤ length s → a ≡ numberAt width s at → b ≡ numberAt width s (at + width) → a * 256 ^ width + b ≡ numberAt (width + width) s at
 halves width s at h p q = rw (p, q) (sym (number-join s at width width h))
@@ -17,6 +16,3 @@ two-bytes s at h p q =
     let j : at + 1 < length s = omega arith in
     let k : at + 1 + 1 ≤ length s = omega arith in
     halves 1 s at k (p ∙ sym (one-byte s at i)) (q ∙ sym (one-byte s (at + 1) j))
-
-pub span-from : (s : List ℕ) (at : ℕ) {a b : ℕ} → a ≡ numberAt 4 s at → b ≡ numberAt 4 s (at + 4) → _≡_ {A = Span} (record { start = a; end = b }) (spanAt s at)
-span-from s at p q = rw (p, q)

@@ -1,8 +1,8 @@
 -- Where the parts of statements end, in the steps of the code. Assumes nothing.
-use Prim.Native.Nat.{ℕ, zero, suc, _+_, _*_, _≤_, _<_}
-use mathlib.Core.Path.{_≡_, refl, sym}
+use Prim.Native.Nat.{ℕ, _+_, _*_, _≤_, _<_}
+use mathlib.Core.Path.{_≡_, sym}
 use mathlib.Core.List.{List}
-use mathlib.Core.Logic.{_⊎_, inl, inr, ⊎-elim}
+use mathlib.Core.Logic.{⊎-elim}
 use native.Mathlib.Omega.{arith}
 use lib.ListN.{length, getD}
 use Rattle.ast.specs.Tree.{Text}
@@ -41,12 +41,6 @@ module _ (t : List Text) (s : List ℕ) (at : ℕ) where
 
     -- `ctrl` and `negctrl` have one shape
     module _ (n : getD s at 0 ≡ 2 → ⊥) (o : getD s at 0 ≡ 3 → ⊥) where
-      pub control-count : IsOk (option (held t) s (at + 1))
-      control-count = of.control-count t s at h n o
-
       module _ (k : ℕ) (e : k ≡ nextOf (option (held t) s (at + 1))) where
-        pub control-inside : k + 8 ≤ length s
-        control-inside = of.control-inside t s at h n o k e
-
         pub control-next : k + 8 ≡ nextOf (modifier t s at)
         control-next = sym (⊎-elim (λ b. next-is (of.ctrl-is t s at h b k e)) (λ b. next-is (of.negCtrl-is t s at h b k e)) (of.control t s at h n o))

@@ -122,14 +122,6 @@ module _ (t : List Text) (left : ℕ) (s : List ℕ) (at : ℕ) (h : IsOk (stmt 
   pub stmt-end : nextOf (stmt t left s at) ≤ length s
   stmt-end = let i = stmt-in t left s at h in let l : at ≤ length s = omega arith in stmt-moves t left .moves s at l h .1
 
-  pub stmt-ahead : at < nextOf (stmt t left s at)
-  stmt-ahead =
-      let g = stmt-goes t left s at h (getD s at 0) refl in
-      let i = stmt-in t left s at h in
-      let l : at + 1 ≤ length s = omega arith in
-      let e = cases-move t (stmt t (left - 1)) (stmt-moves t (left - 1)) at (getD s at 0) .moves s (at + 1) l (subst IsOk (g .is) h) in
-      rw (g .is) (omega arith)
-
 pub body-end : (t : List Text) (left : ℕ) (s : List ℕ) (at : ℕ) → IsOk (body (stmt t left) s at) → nextOf (body (stmt t left) s at) ≤ length s
 body-end t left s at h = let i = body-in (stmt t left) s at h in let l : at ≤ length s = omega arith in body-moves (stmt-moves t left) .moves s at l h .1
 

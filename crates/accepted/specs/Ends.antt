@@ -11,7 +11,7 @@ use Rattle.tree.specs.Ans.{Ans, ok, refused, Reader, bind, _>>=_, done, here, r
 use Rattle.tree.specs.Read.{number, span, caseByte, oneOf, optionCase, option, repeat, count, counted}
 use Rattle.tree.specs.Exprs.{textNumber}
 use Rattle.accepted.specs.Parts.{next-is, start, stops}
-use Rattle.accepted.specs.Fields.{number-in, number-is, span-in, span-is, case-in, case-is, one-in, one-is, count-in, count-is, text-in, text-is, option-in, counted-in}
+use Rattle.accepted.specs.Fields.{number-in, number-is, span-in, span-is, case-in, case-is, one-in, one-is, count-in, count-is, text-in, text-is, option-in}
 
 pub record Moves {A : Type 0} (r : Reader A) : Type 0 where
   pub moves : (s : List ℕ) (at : ℕ) → at ≤ length s → IsOk (r s at) → (at ≤ nextOf (r s at)) × (nextOf (r s at) ≤ length s)
@@ -91,9 +91,6 @@ counted-moves nil cons m = seq-moves _ count-moves (repeat-moves nil cons m)
 module _ {A : Type 0} (p : Reader A) (m : Moves p) (s : List ℕ) (at : ℕ) where
   pub option-inside : IsOk (option p s at) → nextOf (option p s at) ≤ length s
   option-inside h = let i = option-in s at p h in let l : at ≤ length s = omega arith in option-moves m .moves s at l h .1
-
-  pub counted-inside : {B : Type 0} (nil : B) (cons : A → B → B) → IsOk (counted nil cons p s at) → nextOf (counted nil cons p s at) ≤ length s
-  counted-inside nil cons h = let i = counted-in s at nil cons p h in let l : at ≤ length s = omega arith in counted-moves nil cons m .moves s at l h .1
 
 -- one of several cases
 pub data Each {A : Type 0} : List (Reader A) → Type 0 where

@@ -1,7 +1,7 @@
 -- What an accepted expression says of its parts, and which tree it is: for each production, the parts are accepted where they stand, the
 -- span's bytes are inside, and the whole is this value and this place. A place past a part is a number that equals its end. Assumes nothing.
 use Prim.Native.Nat.{ℕ, zero, suc, _+_, _-_, _≤_, _<_}
-use mathlib.Core.Path.{_≡_, refl, subst}
+use mathlib.Core.Path.{_≡_, refl}
 use mathlib.Core.List.{List}
 use native.Mathlib.Omega.{arith}
 use native.Mathlib.Numerals.{sub-one}
@@ -14,7 +14,7 @@ use Rattle.tree.specs.Exprs.{constKind, binOp, compareOp, exprs, intLit, floatL
 use Rattle.context.specs.View.{numberAt, spanAt}
 use Rattle.accepted.specs.Cases.{boolOf, constKindOf, binOpOf, compareOpOf, blank}
 use Rattle.accepted.specs.Parts.{valueOr, end-in, Goes, start, field, known, past, ends, stops}
-use Rattle.accepted.specs.Fields.{number-is, span-is, one-below, one-is, choice-in, choice-below, choice, text-in-at, text-below, text-is, repeat-first, repeat-rest, repeat-is}
+use Rattle.accepted.specs.Fields.{number-is, span-is, one-is, choice-in, choice-below, choice, text-in-at, text-below, text-is, repeat-first, repeat-rest, repeat-is}
 use Rattle.accepted.specs.Ends.{Moves, seq-moves, last-moves, number-moves, span-moves, one-moves, text-moves, counted-moves, none-left, and, each-moves, refuse-moves, choice-moves}
 
 module _ (s : List ℕ) (at : ℕ) where
@@ -82,14 +82,6 @@ pub expr-end : (t : List Text) (left : ℕ) (s : List ℕ) (at : ℕ) → IsOk (
 expr-end t left s at h = let i = expr-in t left s at h in let l : at ≤ length s = omega arith in expr-moves t left .moves s at l h .1
 
 module _ (t : List Text) (left : ℕ) (s : List ℕ) (at : ℕ) (h : IsOk (expr t left s at)) where
-  pub expr-ahead : at < nextOf (expr t left s at)
-  expr-ahead =
-      let g = expr-goes t left s at h (getD s at 0) refl in
-      let i = expr-in t left s at h in
-      let l : at + 1 ≤ length s = omega arith in
-      let e = cases-move t (expr t (left - 1)) (expr-moves t (left - 1)) at (getD s at 0) .moves s (at + 1) l (subst IsOk (g .is) h) in
-      rw (g .is) (omega arith)
-
   -- an integer literal
   module _ (b : getD s at 0 ≡ 0) where
     pub intLit-is : expr t left s at ≡ ok (Expr.IntLit (numberAt 8 s (at + 1)) (spanAt s (at + 9))) (at + 17)
@@ -101,10 +93,6 @@ module _ (t : List Text) (left : ℕ) (s : List ℕ) (at : ℕ) (h : IsOk (expr 
 
   -- a float literal
   module _ (b : getD s at 0 ≡ 1) where
-    pub floatLit-text : numberAt 2 s (at + 1) < length t
-    unfolding exprCases floatLit
-    floatLit-text = text-below s (at + 1) t isFloat (field _ _ (expr-goes t left s at h 1 b))
-
     pub floatLit-is : expr t left s at ≡ ok (Expr.FloatLit (numberAt 2 s (at + 1)) (spanAt s (at + 3))) (at + 11)
     unfolding exprCases floatLit
     floatLit-is = ends _ (known _ _ (at + 11) (span-is s (at + 3)) (omega arith) (known _ _ (at + 3) (text-is s (at + 1) t isFloat) (omega arith) (expr-goes t left s at h 1 b)))
@@ -114,10 +102,6 @@ module _ (t : List Text) (left : ℕ) (s : List ℕ) (at : ℕ) (h : IsOk (expr 
 
   -- a bool literal
   module _ (b : getD s at 0 ≡ 2) where
-    pub boolLit-value : getD s (at + 1) 0 < 2
-    unfolding exprCases boolLit bool
-    boolLit-value = one-below s (at + 1) _ _ (field _ _ (expr-goes t left s at h 2 b))
-
     pub boolLit-is : expr t left s at ≡ ok (Expr.BoolLit (boolOf (getD s (at + 1) 0)) (spanAt s (at + 2))) (at + 10)
     unfolding exprCases boolLit
     boolLit-is = ends _ (known _ _ (at + 10) (span-is s (at + 2)) (omega arith) (known _ _ (at + 2) (bool-is s (at + 1)) (omega arith) (expr-goes t left s at h 2 b)))
@@ -175,10 +159,6 @@ module _ (t : List Text) (left : ℕ) (s : List ℕ) (at : ℕ) (h : IsOk (expr 
 
   -- a constant
   module _ (b : getD s at 0 ≡ 6) where
-    pub const-kind : getD s (at + 1) 0 < 3
-    unfolding exprCases const constKind
-    const-kind = one-below s (at + 1) _ _ (field _ _ (expr-goes t left s at h 6 b))
-
     pub const-is : expr t left s at ≡ ok (Expr.Const (constKindOf (getD s (at + 1) 0)) (spanAt s (at + 2))) (at + 10)
     unfolding exprCases const
     const-is = ends _ (known _ _ (at + 10) (span-is s (at + 2)) (omega arith) (known _ _ (at + 2) (constKind-is s (at + 1)) (omega arith) (expr-goes t left s at h 6 b)))
@@ -202,10 +182,6 @@ module _ (t : List Text) (left : ℕ) (s : List ℕ) (at : ℕ) (h : IsOk (expr 
 
   -- an arithmetic operation
   module _ (b : getD s at 0 ≡ 8) where
-    pub binary-op : getD s (at + 1) 0 < 5
-    unfolding exprCases binary binOp
-    binary-op = one-below s (at + 1) _ _ (field _ _ (expr-goes t left s at h 8 b))
-
     pub binary-lhs : IsOk (expr t (left - 1) s (at + 2))
     unfolding exprCases binary
     binary-lhs = field _ _ (known _ _ (at + 2) (binOp-is s (at + 1)) (omega arith) (expr-goes t left s at h 8 b))
@@ -225,10 +201,6 @@ module _ (t : List Text) (left : ℕ) (s : List ℕ) (at : ℕ) (h : IsOk (expr 
 
   -- a comparison
   module _ (b : getD s at 0 ≡ 9) where
-    pub compare-op : getD s (at + 1) 0 < 6
-    unfolding exprCases compare compareOp
-    compare-op = one-below s (at + 1) _ _ (field _ _ (expr-goes t left s at h 9 b))
-
     pub compare-lhs : IsOk (expr t (left - 1) s (at + 2))
     unfolding exprCases compare
     compare-lhs = field _ _ (known _ _ (at + 2) (compareOp-is s (at + 1)) (omega arith) (expr-goes t left s at h 9 b))

@@ -1,7 +1,7 @@
 -- What is known of a field that was accepted: where its bytes stand, what its value is, where it ends. Assumes nothing.
 use Prim.Native.Nat.{ℕ, zero, suc, _+_, _-_, _≤_, _<_}
 use mathlib.Core.Path.{_≡_, refl, sym, subst}
-use mathlib.Core.List.{List, [], _∷_}
+use mathlib.Core.List.{List, _∷_}
 use mathlib.Core.Option.{none, some}
 use mathlib.Core.Bool.{Bool, true, false}
 use native.Mathlib.Omega.{arith}
@@ -27,7 +27,7 @@ module _ (s : List ℕ) (at : ℕ) where
   unfolding byte
   byte-in h = ltb-true at (length s) (within-true (ltb at (length s)) (length s) (ok (getD s at 0) (at + 1)) h)
 
-  byte-is : IsOk (byte s at) → byte s at ≡ ok (getD s at 0) (at + 1)
+  pub byte-is : IsOk (byte s at) → byte s at ≡ ok (getD s at 0) (at + 1)
   unfolding byte within
   byte-is h = rw (lt-ltb at (length s) (byte-in h))
 
@@ -111,10 +111,6 @@ module _ (s : List ℕ) (at : ℕ) where
     pub text-below : numberAt 2 s at < length t
     unfolding textNumber
     text-below = ltb-true (numberAt 2 s at) (length t) (checked _ _ _ _ (known _ _ (at + 2) (number-is s at 2) refl (past-here _ (start h))))
-
-    pub text-spelled : spelled (getD t (numberAt 2 s at) []) ≡ true
-    unfolding textNumber
-    text-spelled = checked _ _ _ _ (past-check _ _ _ _ (known _ _ (at + 2) (number-is s at 2) refl (past-here _ (start h))))
 
     pub text-is : textNumber t spelled s at ≡ ok (numberAt 2 s at) (at + 2)
     unfolding textNumber

@@ -1,21 +1,23 @@
 -- What accepted operands, modifiers, ranges and parameters say of their parts, and which values they are. Assumes nothing.
 use Prim.Native.Nat.{ℕ, zero, suc, _+_, _≤_, _<_}
-use mathlib.Core.Path.{_≡_, refl}
+use mathlib.Core.Path.{_≡_, refl, sym, ap, _∙_}
 use mathlib.Core.List.{List, [], _∷_}
 use mathlib.Core.Option.{none, some}
 use mathlib.Core.Logic.{_⊎_, inl, inr, ⊎-elim}
 use native.Mathlib.Omega.{arith}
 use lib.ListN.{length, getD}
-use Rattle.ast.specs.Tree.{Text, GateModifier}
+use Rattle.ast.specs.Tree.{Text, GateOperand as Operand, GateModifier}
 use Rattle.tree.specs.Ans.{ok, refuse, IsOk, nextOf}
 use Rattle.tree.specs.Read.{u64, span, option}
 use Rattle.tree.specs.Texts.{isName}
 use Rattle.tree.specs.Exprs.{name}
 use Rattle.tree.specs.Stmts.{classicalType, qualifier, slice, operand, held, ctrl, negCtrl, inv, pow, modifier, forRange, param}
+use Rattle.context.specs.declared.GateOperand.{GateOperand}
+use Rattle.context.specs.Values.{operandOf}
 use Rattle.context.specs.View.{numberAt, spanAt, typeOf}
-use Rattle.accepted.specs.Cases.{qualifierOf, blank}
-use Rattle.accepted.specs.Parts.{valueOr, end-in, Goes, start, field, known, past, ends}
-use Rattle.accepted.specs.Fields.{number-in, number-is, span-is, one-below, one-is, choice-in, choice-below, choice, text-in, text-below, text-is, option-known, option-held}
+use Rattle.accepted.specs.Cases.{qualifierOf, blank, blankOperand}
+use Rattle.accepted.specs.Parts.{valueOr, is-ok, value-is, end-in, Goes, start, field, known, past, ends}
+use Rattle.accepted.specs.Fields.{number-in, number-is, span-is, one-in, one-is, choice-in, choice-below, choice, text-in, text-below, text-is, option-known, option-held}
 use Rattle.accepted.specs.Ends.{Moves, seq-moves, last-moves, number-moves, span-moves, one-moves, text-moves, option-moves, none-left, and, each-moves, refuse-moves, choice-moves}
 use Rattle.accepted.specs.Exprs.{expr-moves}
 
@@ -54,6 +56,10 @@ module _ (s : List ℕ) (at : ℕ) where
     someSlice-is = let e : at + 1 + 8 ≡ at + 9 = omega arith in rw (← e) (option-known s at slice h (at + 17) (slice-is s (at + 1)) (omega arith) z)
 
   module _ (h : IsOk (option qualifier s at)) (z : getD s at 0 ≡ 0 → ⊥) where
+    pub someQualifier-in : at + 1 < length s
+    unfolding qualifier
+    someQualifier-in = one-in s (at + 1) _ _ (option-held s at qualifier h z)
+
     pub someQualifier-is : option qualifier s at ≡ ok (some (qualifierOf (getD s (at + 1) 0))) (at + 2)
     someQualifier-is = option-known s at qualifier h (at + 2) (qualifier-is s (at + 1)) (omega arith) z
 
@@ -123,6 +129,14 @@ module _ (t : List Text) (s : List ℕ) (at : ℕ) (h : IsOk (operand t s at)) w
       pub operand-inside : m + 8 ≤ length s
       operand-inside = end-in operand-is (operand-end t s at h)
 
+-- the name of an operand that was read is one of the file's
+pub operand-below : (t : List Text) (s : List ℕ) (at : ℕ) (op : GateOperand) {k : ℕ} → operand t s at ≡ ok (operandOf op) k → op .name < length t
+operand-below t s at op e =
+    let h = is-ok e in
+    let is = value-is (operand-is t s at h _ refl _ refl) blankOperand in
+    let same : op .name ≡ numberAt 2 s at = ap (λ (q : Operand). q .name) (sym (value-is e blankOperand) ∙ is) in
+    rw same (operand-name t s at h)
+
 module _ (t : List Text) (s : List ℕ) (at : ℕ) (h : IsOk (forRange t s at)) where
   pub forRange-start : IsOk (held t s at)
   unfolding forRange
@@ -144,10 +158,6 @@ module _ (t : List Text) (s : List ℕ) (at : ℕ) (h : IsOk (forRange t s at)) 
         forRange-is = ends _ (past _ _ none n n-end (past _ _ blank m m-end (past _ _ blank k k-end (start h))))
 
 module _ (t : List Text) (s : List ℕ) (at : ℕ) (h : IsOk (param t s at)) where
-  pub param-type : getD s at 0 < 5
-  unfolding param classicalType
-  param-type = one-below s at _ _ (field _ _ (start h))
-
   pub param-name : numberAt 2 s (at + 1) < length t
   unfolding param
   param-name = text-below s (at + 1) t isName (field _ _ (known _ _ (at + 1) (type-is s at) refl (start h)))

@@ -59,11 +59,6 @@ pub record Goes {B : Type 0} (x : Ans B) (q : Reader B) (s : List ℕ) (k : ℕ)
 pub start : {B : Type 0} {q : Reader B} {s : List ℕ} {k : ℕ} → IsOk (q s k) → Goes (q s k) q s k
 start h = record { fine = h; is = refl }
 
-pub bind-is : {A B : Type 0} (d : A) (y : Ans A) (f : A → ℕ → Ans B) → IsOk y → bind y f ≡ f (valueOr d y) (nextOf y)
-unfolding bind IsOk valueOr nextOf
-bind-is d (ok a next) f h = refl
-bind-is d (refused number place) f h = absurd h
-
 pub bind-first : {A B : Type 0} (y : Ans A) (f : A → ℕ → Ans B) → IsOk (bind y f) → IsOk y
 unfolding bind IsOk
 bind-first (ok a next) f h = tt

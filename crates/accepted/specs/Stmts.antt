@@ -11,7 +11,7 @@ use Rattle.tree.specs.Ans.{ok, IsOk, nextOf}
 use Rattle.tree.specs.Read.{u64, option, vec}
 use Rattle.tree.specs.Texts.{isName, isPath}
 use Rattle.tree.specs.Exprs.{name, exprs}
-use Rattle.tree.specs.Stmts.{classicalType, qualifier, assignOp, body, elseBody, operand, held, modifier, forRange, param, include, qubitDecl, bitDecl, classicalDecl, assignment, gateCall, gateDef, functionDef, measure, reset, barrier, delay, branch, forLoop, whileLoop, stmtCases, stmt}
+use Rattle.tree.specs.Stmts.{qualifier, assignOp, body, elseBody, operand, held, modifier, forRange, param, include, qubitDecl, bitDecl, classicalDecl, assignment, gateCall, gateDef, functionDef, measure, reset, barrier, delay, branch, forLoop, whileLoop, stmtCases, stmt}
 use Rattle.context.specs.View.{numberAt, spanAt, typeOf}
 use Rattle.accepted.specs.Cases.{assignOpOf, blank, blankOperand, blankRange}
 use Rattle.accepted.specs.Parts.{valueOr, end-in, field, known, past, ends}
@@ -25,10 +25,6 @@ assignOp-is s at h = one-is s at _ _ h
 
 module _ (t : List Text) (left : ℕ) (s : List ℕ) (at : ℕ) (h : IsOk (stmt t left s at)) where
   module _ (b : getD s at 0 ≡ 0) where
-    pub include-path : numberAt 2 s (at + 1) < length t
-    unfolding stmtCases include
-    include-path = text-below s (at + 1) t isPath (field _ _ (stmt-goes t left s at h 0 b))
-
     pub include-is : stmt t left s at ≡ ok (Stmt.Include at (numberAt 2 s (at + 1)) (spanAt s (at + 3))) (at + 11)
     unfolding stmtCases include
     include-is = ends _ (known _ _ (at + 11) (span-is s (at + 3)) (omega arith) (known _ _ (at + 3) (text-is s (at + 1) t isPath) (omega arith) (stmt-goes t left s at h 0 b)))
@@ -84,10 +80,6 @@ module _ (t : List Text) (left : ℕ) (s : List ℕ) (at : ℕ) (h : IsOk (stmt 
     classicalDecl-qualifier = field _ _ (stmt-goes t left s at h 3 b)
 
     module _ (k : ℕ) (k-end : k ≡ nextOf (option qualifier s (at + 1))) where
-      pub classicalDecl-type : getD s k 0 < 5
-      unfolding stmtCases classicalDecl classicalType
-      classicalDecl-type = one-below s k _ _ (field _ _ (past _ _ none k k-end (stmt-goes t left s at h 3 b)))
-
       pub classicalDecl-name : numberAt 2 s (k + 1) < length t
       unfolding stmtCases classicalDecl
       classicalDecl-name = text-below s (k + 1) t isName (field _ _ (known _ _ (k + 1) (type-is s k) refl (past _ _ none k k-end (stmt-goes t left s at h 3 b))))
@@ -209,10 +201,6 @@ module _ (t : List Text) (left : ℕ) (s : List ℕ) (at : ℕ) (h : IsOk (stmt 
     functionDef-params = field _ _ (known _ _ (at + 3) (text-is s (at + 1) t isName) (omega arith) (stmt-goes t left s at h 7 b))
 
     module _ (k : ℕ) (k-end : k ≡ nextOf (vec (param t) s (at + 3))) where
-      pub functionDef-type : getD s k 0 < 5
-      unfolding stmtCases functionDef classicalType
-      functionDef-type = one-below s k _ _ (field _ _ (past _ _ [] k k-end (known _ _ (at + 3) (text-is s (at + 1) t isName) (omega arith) (stmt-goes t left s at h 7 b))))
-
       pub functionDef-body : IsOk (held t s (k + 1))
       unfolding stmtCases functionDef
       functionDef-body = field _ _ (known _ _ (k + 1) (type-is s k) refl (past _ _ [] k k-end (known _ _ (at + 3) (text-is s (at + 1) t isName) (omega arith) (stmt-goes t left s at h 7 b))))
@@ -318,10 +306,6 @@ module _ (t : List Text) (left : ℕ) (s : List ℕ) (at : ℕ) (h : IsOk (stmt 
     pub forLoop-name-in : at + 3 ≤ length s
     unfolding stmtCases forLoop
     forLoop-name-in = text-in-at s (at + 1) _ (omega arith) t isName (field _ _ (stmt-goes t left s at h 13 b))
-
-    pub forLoop-type : getD s (at + 3) 0 < 5
-    unfolding stmtCases forLoop classicalType
-    forLoop-type = one-below s (at + 3) _ _ (field _ _ (known _ _ (at + 3) (text-is s (at + 1) t isName) (omega arith) (stmt-goes t left s at h 13 b)))
 
     pub forLoop-range : IsOk (forRange t s (at + 4))
     unfolding stmtCases forLoop

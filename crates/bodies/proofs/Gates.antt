@@ -27,11 +27,10 @@ use Rattle.tables.specs.Tables.{Becomes, GateDefined}
 use Rattle.accepted.specs.Parts.{valueOr, value-is}
 use Rattle.accepted.specs.Fields.{counted-is, counted-held, repeat-none, repeat-rest, repeat-is}
 use Rattle.accepted.specs.Stmts.{gateDef-name}
-use Rattle.promises.specs.Emitted.{Emitted, emitted-none}
+use Rattle.promises.specs.Emitted.{Emitted, emitted-none, emitted-report}
 use Rattle.bodies.specs.declared.gate_defs.GateParts.{GateParts}
 use Rattle.bodies.specs.Opened.{gateQubits, gateKnown, GateOpened}
 use Rattle.bodies.specs.Parts.{GatePartsOf, GateEntered}
-use Rattle.bodies.proofs.Reports.{error-emitted}
 
 -- the value of a Vec is as long as its count says
 module _ {A : Type 0} (d : A) (p : Reader A) (s : List ℕ) where
@@ -62,7 +61,7 @@ module _ {t : List Text} (s : List ℕ) {o : List ℕ} {sink : Sink} (x : ℕ) (
   gate-unknown e n f = rw (← e, n) (emitted-none f)
 
   pub gate-known : {o′ : List ℕ} {r : Sink} {found : FoundGate} {g : GateSig} {d : Diagnostic} → foundGateOf found ≡ gatesOf s x → found ≡ FoundGate.Some g → d ≡ errorOf (Message.GateAlreadyDefined x) sp → Reported t d sink o r o′ → Emitted t (gateKnown (gatesOf s) x sp) sink o r o′
-  gate-known e n d p = rw (← e, n) (error-emitted _ _ _ d p)
+  gate-known e n d p = rw (← e, n) (emitted-report d p)
 
 -- a gate defined, and then its scope entered
 pub gate-entered : (s u v : List ℕ) (depth x p q : ℕ) (params qparams : List TextNumber) (sp : Span) → p ≡ length params → q ≡ length qparams → depth < 9 → GateDefined s u x (record { param-count = p; qubit-count = q; decl-span = sp }) → Becomes u v (suc depth) (gateScope params qparams sp ∷ scopesOf u depth) (gatesOf u) (functionsOf u) → GateEntered s v depth x params qparams sp

@@ -1,5 +1,5 @@
 -- Before the body of a `for`. Assumes nothing.
-use Prim.Native.Nat.{ℕ, zero, suc, _+_, _-_, _<_}
+use Prim.Native.Nat.{ℕ, suc, _+_, _-_, _<_}
 use mathlib.Core.Path.{_≡_, refl, sym, _∙_}
 use mathlib.Core.Bool.{true, false}
 use mathlib.Core.List.{List, [], _∷_, _++_}
@@ -32,12 +32,11 @@ use Rattle.accepted.specs.Fields.{option-none, option-some, option-held}
 use Rattle.accepted.specs.Exprs.{expr-in}
 use Rattle.accepted.specs.Operands.{forRange-start, forRange-end, forRange-step, forRange-is}
 use Rattle.accepted.specs.Stmts.{forLoop-name}
-use Rattle.promises.specs.Emitted.{Emitted, emitted-none, emitted-then, emitted-as, unless-holds}
+use Rattle.promises.specs.Emitted.{Emitted, emitted-none, emitted-then, emitted-as, unless-holds, emitted-report}
 use Rattle.promises.specs.Typings.{SaidOf, plainContext}
 use Rattle.bodies.specs.declared.for_loops.ForParts.{ForParts}
 use Rattle.bodies.specs.Opened.{forBody, ForOpened}
 use Rattle.bodies.specs.Parts.{ForPartsOf, isInt, variableSays, boundsSay}
-use Rattle.bodies.proofs.Reports.{error-emitted}
 
 pub range-in : (t : List Text) (s : List ℕ) (at : ℕ) → IsOk (forRange t s at) → at < length s
 range-in t s at h = expr-in t 32 s at (forRange-start t s at h)
@@ -58,7 +57,7 @@ module _ {t : List Text} {sink : Sink} {o : List ℕ} (ty : ClassicalType) (sp :
   variable-int e f = unless-holds (isInt ty) _ e f
 
   pub variable-other : {r : Sink} {o′ : List ℕ} {d : DiagnosticValue} → isInt ty ≡ false → d ≡ errorOf Message.ForVariable sp → Reported t d sink o r o′ → Emitted t (variableSays ty sp) sink o r o′
-  variable-other e d p = rw e (error-emitted _ _ _ d p)
+  variable-other e d p = rw e (emitted-report d p)
 
 module _ (ss : Symbols) (fs : Table FunctionSig) (t : List Text) (s : List ℕ) (at : ℕ) where
   abbrev mustBeInt : Messages.Context → Expr → List Diagnostic

@@ -1,13 +1,12 @@
 -- The program of an accepted file, its keys, and the context that its walk begins with. Assumes nothing.
 use Prim.Native.Nat.{ℕ, zero, suc, _≤_}
-use mathlib.Core.Path.{_≡_, refl, sym, ap, subst, _∙_}
-use mathlib.Core.Bool.{Bool, true, false}
-use lib.Dec.{T}
+use mathlib.Core.Path.{_≡_, sym, ap, subst}
 use mathlib.Core.List.{List, [], _∷_, _++_}
 use native.Mathlib.Omega.{arith}
 use lib.ListN.{length, drop, replicate}
-use Rattle.ast.specs.Tree.{Text, Program, Stmts, noStmt}
-use Rattle.tree.specs.Ans.{ok, IsOk, nextOf}
+use Rattle.text.proofs.Table.{true-of}
+use Rattle.ast.specs.Tree.{Program, Stmts, noStmt}
+use Rattle.tree.specs.Ans.{IsOk, nextOf}
 use Rattle.tree.specs.Texts.{texts}
 use Rattle.tree.specs.Stmts.{body, stmt}
 use Rattle.tree.specs.Decode.{textsOf, decode}
@@ -17,18 +16,15 @@ use Rattle.sema.specs.Marks.{Key, noMarks}
 use Rattle.sema.specs.Keys.{hasKey, keys}
 use Rattle.sema.specs.KeyCount.{Sets, keys-all}
 use Rattle.sema.specs.LawsKeys.{has-key-iff}
-use Rattle.sema.specs.Stmts.{SemaContext, new}
-use Rattle.context.specs.declared.Sink.{Sink}
+use Rattle.sema.specs.Stmts.{new}
 use Rattle.context.specs.declared.State.{State}
-use Rattle.context.specs.Sink.{SinkFits}
-use Rattle.context.specs.View.{Placed, keysIn, scopesOf, gatesOf, functionsOf, marksOf, contextOf}
-use Rattle.tables.specs.Tables.{tablesEnd, FewParams, cleared}
+use Rattle.context.specs.View.{Placed, scopesOf, marksOf, contextOf}
+use Rattle.tables.specs.Tables.{cleared}
 use Rattle.tables.specs.Laws.{cleared-scopes, cleared-gates, cleared-functions, few-empty}
 use Rattle.accepted.specs.Parts.{valueOr, value-is, given-is}
 use Rattle.accepted.specs.Files.{file-is, file-body}
 use Rattle.promises.specs.Walks.{Ready, BodyKeyed}
 use Rattle.claims.specs.Claim.{programOf}
-use Rattle.checker.specs.Check.{sinkAt}
 
 module _ (tree : List ℕ) (h : IsOk (decode tree)) (at : ℕ) (e : at ≡ nextOf (texts tree 0)) where
   pub program-is : programOf tree ≡ record { texts = textsOf tree; statements = valueOr noStmt (body (stmt (textsOf tree) 8) tree at) }
@@ -42,10 +38,6 @@ module _ (tree : List ℕ) (h : IsOk (decode tree)) (at : ℕ) (e : at ≡ nextO
   program-body = file-body tree h at e
 
   -- every key that the program's measure statements set is in its table
-  true-of : (b : Bool) → T b → b ≡ true
-  true-of true x = refl
-  true-of false x = absurd x
-
   pub program-keyed : (ks : List Key) → ks ≡ keys (programOf tree) → length ks ≤ keyLimit → (s : List ℕ) → BodyKeyed ks (scopesOf (cleared s) 1) (body (stmt (textsOf tree) 8) tree at)
   program-keyed ks f l s =
       rw (cleared-scopes s)

@@ -1,11 +1,10 @@
 -- The control total along a Vec of modifiers. Assumes nothing.
-use Prim.Native.Nat.{ℕ, zero, suc, _+_, _-_, _≤_, _<_}
+use Prim.Native.Nat.{ℕ, _+_, _-_, _≤_, _<_}
 use mathlib.Core.Path.{_≡_, refl, sym, ap, _∙_}
 use mathlib.Core.List.{List, [], _∷_}
 use mathlib.Core.Option.{Option, none}
-use mathlib.Core.Logic.{_⊎_, inl, inr, ⊎-elim}
-use native.Mathlib.Omega.{arith}
-use lib.ListN.{length, getD}
+use mathlib.Core.Logic.{⊎-elim}
+use lib.ListN.{getD}
 use Rattle.ast.specs.Tree.{Text, Expr, GateModifier}
 use Rattle.tree.specs.Ans.{IsOk, nextOf, given}
 use Rattle.tree.specs.Read.{option, repeat, vec}
@@ -60,17 +59,11 @@ module _ (t : List Text) (s : List ℕ) (at : ℕ) (before : Total) where
 
     -- `ctrl` and `negctrl` have one shape
     module _ (n : getD s at 0 ≡ 2 → ⊥) (o : getD s at 0 ≡ 3 → ⊥) where
-      pub control-count : IsOk (option (held t) s (at + 1))
-      control-count = of.control-count t s at h n o
-
       module _ (c : Controls) (p : Counted before (option (held t) s (at + 1)) c) where
-        pub control-inside : c .next + 8 ≤ length s
-        control-inside = of.control-inside t s at h n o _ (p .next)
-
         pub added-control : Added before (modifier t s at) (record { total = c .total; next = c .next + 8 })
         unfolding addControls added
         added-control =
-            let sum = p .total ∙ given-ok none none with-count _ control-count in
+            let sum = p .total ∙ given-ok none none with-count _ (of.control-count t s at h n o) in
             ⊎-elim
             (λ b. let is = of.ctrl-is t s at h b _ (p .next) in record { next = sym (next-is is); total = sum ∙ sym (given-is is none with-modifier) })
             (λ b. let is = of.negCtrl-is t s at h b _ (p .next) in record { next = sym (next-is is); total = sum ∙ sym (given-is is none with-modifier) })

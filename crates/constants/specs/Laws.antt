@@ -1,17 +1,15 @@
 -- What callers take from the promises: the values of the trees that were read. Assumes nothing.
-use Prim.Native.Nat.{ℕ}
-use mathlib.Core.Path.{_≡_, sym, ap, _∙_}
+use mathlib.Core.Path.{_≡_, ap, _∙_}
 use mathlib.Core.List.{List, []}
-use mathlib.Core.Option.{Option, none, some}
+use mathlib.Core.Option.{none, some}
 use mathlib.Core.Bool.{Bool, false}
 use Rattle.int128.specs.Whole.{positive}
 use Rattle.ast.specs.Tree.{Expr, GateModifier}
 use Rattle.tree.specs.Ans.{Ans, IsOk}
-use Rattle.sema.specs.Constants.{evalConstInt, modifierControlCount, controls}
+use Rattle.sema.specs.Constants.{evalConstInt, modifierControlCount}
 use Rattle.accepted.specs.Cases.{blank}
 use Rattle.accepted.specs.Parts.{valueOr, given-ok}
 use Rattle.constants.specs.declared.Evaluated.{Evaluated}
-use Rattle.constants.specs.declared.Total.{Total}
 use Rattle.constants.specs.declared.Controls.{Controls}
 use Rattle.constants.specs.Views.{wholeOf, totalOf, isCount, ValueOf, TotalOf}
 
@@ -28,12 +26,3 @@ module _ (x : Ans Expr) (e : Evaluated) (h : IsOk x) (v : ValueOf x e) where
 module _ (x : Ans (List GateModifier)) (c : Controls) (h : IsOk x) (v : TotalOf x c) where
   pub total-of : totalOf (c .total) ≡ modifierControlCount (valueOr [] x)
   total-of = v .total ∙ given-ok [] none modifierControlCount x h
-
-  -- the controls for arity, with a total and without
-  pub controls-some : (n : ℕ) → c .total ≡ Total.Some n → controls (valueOr [] x) ≡ n
-  unfolding controls totalOf
-  controls-some n e = ap (λ (o : Option ℕ). elim o [ none ↦ 0 | some k ↦ k ]) (sym total-of ∙ ap totalOf e)
-
-  pub controls-none : c .total ≡ Total.None → controls (valueOr [] x) ≡ 0
-  unfolding controls totalOf
-  controls-none e = ap (λ (o : Option ℕ). elim o [ none ↦ 0 | some k ↦ k ]) (sym total-of ∙ ap totalOf e)

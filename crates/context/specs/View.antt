@@ -1,16 +1,16 @@
 -- What the scratch, the mark sheet and the index of a walk stand for: the context of the analysis.
-use Prim.Native.Nat.{ℕ, zero, suc, _+_, _-_, _*_, _/_, _%_, _<_, _≤_}
+use Prim.Native.Nat.{ℕ, zero, suc, _+_, _*_, _/_, _%_, _<_, _≤_}
 use mathlib.Core.Path.{_≡_}
 use mathlib.Core.List.{List, [], _∷_, map}
 use mathlib.Core.Option.{Option, none, some}
 use mathlib.Core.Bool.{Bool, true, false, cond}
 use lib.ListN.{length, getD, take, drop}
-use lib.Dec.{eqb, ltb}
+use lib.Dec.{ltb}
 use Rattle.span.specs.declared.Span.{Span}
-use Rattle.ast.specs.Tree.{Text, TextNumber, Stmt}
+use Rattle.ast.specs.Tree.{TextNumber, Stmt}
 use Rattle.ast.specs.declared.ClassicalType.{ClassicalType}
 use Rattle.text.specs.Text.{part}
-use Rattle.tree.specs.Ans.{Ans, IsOk, given}
+use Rattle.tree.specs.Ans.{IsOk, given}
 use Rattle.tree.specs.Read.{value}
 use Rattle.tree.specs.Stmts.{measure}
 use Rattle.tree.specs.Decode.{textsOf}
@@ -26,6 +26,9 @@ numberAt width s at = value 0 (take width (drop at s))
 
 abbrev pub spanAt : List ℕ → ℕ → Span
 spanAt s at = record { start = numberAt 4 s at; end = numberAt 4 s (at + 4) }
+
+pub span-from : (s : List ℕ) (at : ℕ) {a b : ℕ} → a ≡ numberAt 4 s at → b ≡ numberAt 4 s (at + 4) → _≡_ {A = Span} (record { start = a; end = b }) (spanAt s at)
+span-from s at p q = rw (p, q)
 
 abbrev pub typeOf : ℕ → ClassicalType
 typeOf n = getD (ClassicalType.Int ∷ ClassicalType.UInt ∷ ClassicalType.Float ∷ ClassicalType.Angle ∷ ClassicalType.Bool ∷ []) n ClassicalType.Int

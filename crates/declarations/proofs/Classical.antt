@@ -1,11 +1,11 @@
 -- Classical declarations. Assumes nothing.
-use Prim.Native.Nat.{ℕ, zero, suc, _+_, _-_, _<_}
+use Prim.Native.Nat.{ℕ, zero, suc, _+_, _-_}
 use mathlib.Core.Path.{_≡_, refl, sym, _∙_}
 use mathlib.Core.List.{List, [], _∷_, _++_, append-assoc}
 use mathlib.Core.Option.{Option, none, some}
 use mathlib.Core.Bool.{Bool, true, false, not, _&&_}
 use native.Mathlib.Omega.{arith}
-use lib.ListN.{length, getD}
+use lib.ListN.{getD}
 use lib.Dec.{eqb}
 use borrow.Author.Tests.{ne-eqb}
 use Rattle.span.specs.declared.Span.{Span}
@@ -25,7 +25,7 @@ use Rattle.sema.specs.Exprs.{mismatch}
 use Rattle.sema.specs.Stmts.{SemaContext, isConst, isInput, initSays, classicalSays, analyzeStmt}
 use Rattle.accepted.specs.Cases.{blank}
 use Rattle.accepted.specs.Parts.{valueOr, next-is, value-is}
-use Rattle.accepted.specs.Fields.{one-in, one-below, option-none, option-held, option-some}
+use Rattle.accepted.specs.Fields.{one-below, option-none, option-held, option-some}
 use Rattle.accepted.specs.Operands.{someQualifier-is}
 use Rattle.accepted.specs.Stmts.{classicalDecl-is}
 use Rattle.context.specs.declared.Sink.{Sink}
@@ -41,11 +41,11 @@ use Rattle.tables.specs.Laws.{few-after}
 use Rattle.promises.specs.Emitted.{Emitted, emitted-then, emitted-as}
 use Rattle.promises.specs.Typings.{TypingOf}
 use Rattle.promises.specs.Walks.{Ready, StmtWalked}
-use Rattle.promises.specs.WalkLaws.{marks-kept}
+use Rattle.promises.specs.WalkLaws.{marks-kept, context-is}
 use Rattle.declarations.specs.Says.{qualifierCode, codeSays, classicalRest}
 use Rattle.declarations.specs.Checked.{Declared, initAt}
 use Rattle.declarations.proofs.Sayings.{silent}
-use Rattle.declarations.proofs.Declares.{context-is, changed-walked, after-is, name-is, span-is, becomes-as}
+use Rattle.declarations.proofs.Declares.{changed-walked, after-is, name-is, span-is, becomes-as}
 use Rattle.declarations.proofs.Targets.{checked-mismatch}
 
 -- a qualifier by its bytes
@@ -58,10 +58,6 @@ module _ (s : List ℕ) (at : ℕ) (h : IsOk (option qualifier s at)) where
 
   pub qualifier-input : (getD s at 0 ≡ 0 → ⊥) → getD s (at + 1) 0 ≡ 1 → 2 ≡ qualifierCode (valueOr none (option qualifier s at))
   qualifier-input z e = rw (value-is (someQualifier-is s at h z) none, e)
-
-  pub qualifier-in : (getD s at 0 ≡ 0 → ⊥) → at + 1 < length s
-  unfolding qualifier
-  qualifier-in z = one-in s (at + 1) _ _ (option-held s at qualifier h z)
 
   pub qualifier-output : (getD s at 0 ≡ 0 → ⊥) → (getD s (at + 1) 0 ≡ 0 → ⊥) → (getD s (at + 1) 0 ≡ 1 → ⊥) → 3 ≡ qualifierCode (valueOr none (option qualifier s at))
   unfolding qualifier

@@ -15,8 +15,8 @@ use Rattle.tree.specs.Stmts.{stmt}
 use Rattle.tree.specs.Decode.{textsOf}
 use Rattle.sema.specs.Messages
 use Rattle.sema.specs.Symbols.{Symbol, Symbols, GateSig, FunctionSig, Table, insert, getCurrent, declare, declareSays, after}
-use Rattle.sema.specs.Marks.{Marks, effect}
-use Rattle.sema.specs.Stmts.{SemaContext, analyzeStmt}
+use Rattle.sema.specs.Marks.{effect}
+use Rattle.sema.specs.Stmts.{analyzeStmt}
 use Rattle.accepted.specs.Parts.{next-is, given-is}
 use Rattle.accepted.specs.Stmts.{qubitDecl-is, bitDecl-is}
 use Rattle.context.specs.declared.Sink.{Sink}
@@ -29,12 +29,9 @@ use Rattle.tables.specs.Tables.{Becomes, FewParams}
 use Rattle.tables.specs.Laws.{few-after}
 use Rattle.promises.specs.Emitted.{Emitted, emitted-as}
 use Rattle.promises.specs.Walks.{Ready, StmtWalked}
-use Rattle.promises.specs.WalkLaws.{marks-kept, stmt-walked}
+use Rattle.promises.specs.WalkLaws.{marks-kept, context-is, stmt-walked}
 use Rattle.declarations.specs.Says.{declaredSays}
 use Rattle.declarations.specs.Checked.{Declared}
-
-pub context-is : {ss ss′ : Symbols} {gs gs′ : Table GateSig} {fs fs′ : Table FunctionSig} {m m′ : Marks} → ss ≡ ss′ → gs ≡ gs′ → fs ≡ fs′ → m ≡ m′ → _≡_ {A = SemaContext} (record { symbols = ss; gates = gs; functions = fs; measured = m }) (record { symbols = ss′; gates = gs′; functions = fs′; measured = m′ })
-context-is a b c d = rw (a, b, c, d)
 
 -- the statement was read as S, which keeps the marks, and the scratch has become what the analysis says
 module _ (tree index : List ℕ) (keys left : ℕ) (st : State) {S : Stmt} {k : ℕ} (e : stmt (textsOf tree) left tree (st .at) ≡ ok S k) where

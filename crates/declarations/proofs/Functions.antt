@@ -1,14 +1,11 @@
 -- Function definitions. Assumes nothing.
-use Prim.Native.Nat.{ℕ, zero, suc, _+_, _-_, _*_, _≤_, _<_}
+use Prim.Native.Nat.{ℕ, suc, _+_, _-_, _*_, _≤_, _<_}
 use mathlib.Core.Path.{_≡_, refl, sym, ap, _∙_}
 use mathlib.Core.List.{List, [], _∷_, _++_, map}
 use mathlib.Core.Option.{Option, none, some}
-use mathlib.Core.Bool.{Bool, true, false}
 use native.Mathlib.Omega.{arith}
 use native.Mathlib.Numerals.{add-one}
 use lib.ListN.{length, getD}
-use lib.Dec.{eqb}
-use borrow.Author.Tests.{eqb-true, eqb-false}
 use Rattle.span.specs.declared.Span.{Span}
 use Rattle.ast.specs.Tree.{TextNumber, Expr}
 use Rattle.ast.specs.declared.ClassicalType.{ClassicalType}
@@ -33,7 +30,7 @@ use Rattle.context.specs.Sink.{SinkFits}
 use Rattle.context.specs.Values.{typedOf}
 use Rattle.context.specs.View.{numberAt, spanAt, typeOf, scopesOf, gatesOf, functionsOf}
 use Rattle.tables.specs.Tables.{Becomes, FunctionDefined, FewParams, briefOf, functionIn}
-use Rattle.tables.specs.Laws.{scopes-below, few-defined, few-after}
+use Rattle.tables.specs.Laws.{scopes-below, scopes-fewer, few-defined, few-after}
 use Rattle.tables.specs.Params.{ParamsRead, params-read, function-read}
 use Rattle.promises.specs.Emitted.{Emitted, emitted-then, emitted-as}
 use Rattle.promises.specs.Typings.{TypingOf}
@@ -141,20 +138,6 @@ body-checked {f = f} h b p m =
       emitted = emitted-as (checked-mismatch _ _ _ h p (λ actual. Messages.functionReturns (f .name) (f .«return_type») actual) (f .«return_type») m) (rw (add-one, b .scopes-are, b .functions-are));
     }
 
-abbrev outer : Symbols → Symbols
-outer [] = []
-outer (c ∷ ss) = ss
-
--- fewer scopes are the same where more are
-under : (s t : List ℕ) (depth : ℕ) → scopesOf t depth ≡ scopesOf s depth → (d : ℕ) → d < depth → scopesOf t d ≡ scopesOf s d
-unfolding scopesOf
-under s t zero e d l = absurd (omega arith)
-under s t (suc depth) e d l = by (eqb d depth) refl (λ k. under s t depth (ap outer e) d k)
-  where
-    by : (b : Bool) → eqb d depth ≡ b → (d < depth → scopesOf t d ≡ scopesOf s d) → scopesOf t d ≡ scopesOf s d
-    by true f u = rw (eqb-true d depth f) (ap outer e)
-    by false f u = let n = eqb-false d depth f in u (omega arith)
-
 says-function : (c : SemaContext) (x : ℕ) (ps : List (ClassicalType × TextNumber)) (ty : ClassicalType) (body : Expr) (sp : Span) {ss : Symbols} {fs : Table FunctionSig} → ss ≡ c .symbols → fs ≡ defineFunction x ps ty sp (c .functions) → definedSays (c .functions x) x sp ++ bodySays (functionScope ps sp ∷ ss) fs x ty body ≡ functionSays c x ps ty body sp
 unfolding functionSays definedSays bodySays
 says-function c x ps ty body sp a b = rw (a, b) (ap (λ ds. ds ++ bodySays (functionScope ps sp ∷ c .symbols) (defineFunction x ps ty sp (c .functions)) x ty body) (by (c .functions x)))
@@ -183,5 +166,5 @@ unfolding analyzeStmt
 function-walked tree index keys left st u {f = f} {s = s} ready a d b =
     let l : 9 - left ≤ 9 = omega arith in
     let c = both l d b in
-    changed-walked tree index keys left st (a .is) (f .end) refl ready refl c (under s _ (9 - left) (c .scopes-are)) (rw (b .becomes .functions-are) (d .few))
+    changed-walked tree index keys left st (a .is) (f .end) refl ready refl c (λ x m. scopes-fewer s _ (9 - left) x (c .scopes-are) (omega arith)) (rw (b .becomes .functions-are) (d .few))
     (emitted-as (emitted-then (d .emitted) (b .emitted)) (says-function _ _ _ _ _ _ (d .becomes (9 - left) l .scopes-are) (d .becomes (9 - left) l .functions-are)))

@@ -1,6 +1,6 @@
 -- What the reports say, for each way out of them. Assumes nothing.
 use Prim.Native.Nat.{ℕ, zero, suc, _<_}
-use mathlib.Core.Path.{_≡_, refl, sym, ap, _∙_}
+use mathlib.Core.Path.{_≡_, refl, sym, _∙_}
 use mathlib.Core.List.{List, [], _∷_}
 use mathlib.Core.Bool.{Bool, true, false, _&&_, _||_}
 use native.Mathlib.Omega.{arith}
@@ -22,20 +22,11 @@ use Rattle.context.specs.declared.Symbol.{Symbol}
 use Rattle.context.specs.declared.FoundSymbol.{FoundSymbol}
 use Rattle.context.specs.Sink.{SinkFits}
 use Rattle.context.specs.Values.{kindOf, typedOf, foundOf}
-use Rattle.lines.specs.declared.Diagnostic.{Diagnostic as DiagnosticValue}
 use Rattle.lines.specs.declared.Message.{Message}
 use Rattle.lines.specs.declared.Note.{Note}
-use Rattle.lines.specs.Values.{diagnosticOf, errorOf, errorWithNoteOf, nameIn, nameInNote, Below, Fits, Reported}
-use Rattle.promises.specs.Emitted.{Emitted, emitted-none, emitted-one, emitted-then, emitted-as}
+use Rattle.lines.specs.Values.{diagnosticOf, errorOf, errorWithNoteOf, nameIn, Below}
+use Rattle.promises.specs.Emitted.{Emitted, emitted-none, emitted-then, emitted-as}
 use Rattle.declarations.specs.Says.{declaredSays, spanned, targetType, refusal}
-
--- what a report requires of its diagnostic
-module _ {n : ℕ} {d : DiagnosticValue} {m : Message} {sp : Span} where
-  pub fits-error : d ≡ errorOf m sp → Below n (nameIn m) → Fits n d
-  fits-error e b = rw e (record { named = b; noted = tt })
-
-  pub fits-noted : {note : Note} {at : Span} → d ≡ errorWithNoteOf m sp note at → Below n (nameIn m) → Below n (nameInNote note) → Fits n d
-  fits-noted e b a = rw e (record { named = b; noted = a })
 
 -- none and a type differ
 never : {C : Type 0} {ty : ClassicalType} → _≡_ {A = Typed} None («Type» ty) → C
@@ -91,9 +82,6 @@ module _ {t : List Text} {s : Sink} {o : List ℕ} where
   mismatch-none d expected ty e h = silent (rw e) h
 
   module _ {r : Sink} {o′ : List ℕ} where
-    pub reported : {d e : DiagnosticValue} → d ≡ e → Reported t d s o r o′ → Emitted t (diagnosticOf e ∷ []) s o r o′
-    reported q p = emitted-as (emitted-one p) (ap (λ x. diagnosticOf x ∷ []) q)
-
     pub declared-some : (f : FoundSymbol) (v : Symbol) (x : ℕ) (sp : Span) → f ≡ FoundSymbol.Some v → Emitted t (diagnosticOf (errorWithNoteOf (Message.AlreadyDeclared x) sp (Note.FirstDeclared x) (v .«decl_span»)) ∷ []) s o r o′ → Emitted t (declaredSays (foundOf f) x sp) s o r o′
     unfolding declaredSays
     declared-some f v x sp e h = emitted-as h (rw e)

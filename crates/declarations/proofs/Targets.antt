@@ -34,10 +34,9 @@ use Rattle.lines.specs.Values.{diagnosticOf, errorOf}
 use Rattle.promises.specs.Emitted.{Emitted, emitted-then, emitted-as}
 use Rattle.promises.specs.Typings.{TypingOf}
 use Rattle.promises.specs.Walks.{Ready, StmtWalked}
-use Rattle.promises.specs.WalkLaws.{marks-kept, same-walked}
+use Rattle.promises.specs.WalkLaws.{marks-kept, context-is, same-walked}
 use Rattle.declarations.specs.Says.{spanned, targetBy}
 use Rattle.declarations.specs.Spans.{expr-long, span-last}
-use Rattle.declarations.proofs.Declares.{context-is}
 
 module _ {t : List Text} {s : Sink} {o : List ℕ} {r : Sink} {o′ : List ℕ} where
   pub target-none : (ss : Symbols) (f : FoundSymbol) (x op : ℕ) (v sp : Span) (ty : Option ClassicalType) → foundOf f ≡ get ss x → f ≡ FoundSymbol.None → Emitted t (diagnosticOf (errorOf (Message.NotDeclared x) sp) ∷ []) s o r o′ → Emitted t (targetBy (get ss x) x (assignOpOf op) (spanned v) sp ty) s o r o′

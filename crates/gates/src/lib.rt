@@ -151,11 +151,14 @@ pub fn standard_gate_signature(name: &[u8]) -> Signature
     if 6 < name.len() {
         return Signature::None;
     }
+    // read before the search, the tables are folded into it and stand nowhere in memory
+    let params = PARAMS;
+    let qubits = QUBITS;
     let n = find(&KEYS, key_of(name));
     if n < 28 {
         return Signature::Standard {
-            params: PARAMS[n],
-            qubits: QUBITS[n],
+            params: params[n],
+            qubits: qubits[n],
         };
     }
     Signature::None

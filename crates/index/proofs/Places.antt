@@ -18,7 +18,7 @@ use Rattle.tree.specs.Texts.{between, allowed, among, text, moreTexts, texts}
 use Rattle.tree.specs.Decode.{decode, textsOf}
 use Rattle.context.specs.View.{numberAt, textPlace, TextAt, TextsAt}
 use Rattle.accepted.specs.Parts.{valueOr, next-is, value-is, Goes, start, field, known, past-here, checked, past-check, past-unit, ends}
-use Rattle.accepted.specs.Fields.{number-in, number-is}
+use Rattle.accepted.specs.Fields.{byte-is, number-in, number-is}
 use Rattle.accepted.specs.Files.{file-texts, texts-few, texts-are}
 use Rattle.index.specs.Kept.{text-moved}
 
@@ -43,10 +43,6 @@ end s at = at + 1 + getD s at 0
 
 -- one text
 module _ (s : List ℕ) (at : ℕ) where
-  byte-is : IsOk (byte s at) → byte s at ≡ ok (getD s at 0) (at + 1)
-  unfolding byte
-  byte-is h = within-is _ _ _ h .1
-
   bytes-step : IsOk (bytes (getD s at 0) s (at + 1)) → (end s at ≤ length s) × (bytes (getD s at 0) s (at + 1) ≡ ok (held s at) (end s at))
   unfolding bytes
   bytes-step h = let w = within-is _ _ _ h in (leb-true _ _ (w .0), w .1)
@@ -54,7 +50,7 @@ module _ (s : List ℕ) (at : ℕ) where
   module _ (earlier : List Text) (h : IsOk (text earlier s at)) where
     length-goes : Goes (text earlier s at) (_>>_ (check (between 1 textLimit (getD s at 0)) 4 at) (_>>=_ here (λ k. _>>=_ (bytes (getD s at 0)) (λ cs. _>>_ (allowed cs k) (_>>_ (check (not (among cs earlier)) 4 at) (done cs)))))) s (at + 1)
     unfolding text
-    length-goes = known _ _ (at + 1) byte-is refl (past-here _ (start h))
+    length-goes = known _ _ (at + 1) (byte-is s at) refl (past-here _ (start h))
 
     bytes-goes : Goes (text earlier s at) (_>>=_ (bytes (getD s at 0)) (λ cs. _>>_ (allowed cs (at + 1)) (_>>_ (check (not (among cs earlier)) 4 at) (done cs)))) s (at + 1)
     bytes-goes = past-here _ (past-check _ _ _ _ length-goes)

@@ -3,15 +3,14 @@ use Prim.Native.Nat.{ℕ, zero, suc, _<_, _≤_, _+_, _-_, _*_, _/_, _%_}
 use mathlib.Core.Path.{_≡_, refl, sym, ap, _∙_}
 use mathlib.Core.Bool.{Bool, true, false, xor}
 use native.Mathlib.Omega.{arith}
-use native.Mathlib.Nat.{mul-assoc, mul-comm, mul-le-mul-left, le-trans, div-eq-of-lt, mod-eq-of-lt, div-eq-of-lt-le, mod-eq-sub-mod, mul-add-div-right, mul-add-mod-self-right, div-add-mod', div-mul-le-self, mod-lt}
-use lib.IntN.{ℤ, pos, negsuc, negℤ}
+use native.Mathlib.Nat.{mul-assoc, mul-comm, mul-le-mul-left, div-eq-of-lt, mod-eq-of-lt, div-eq-of-lt-le, mod-eq-sub-mod, mul-add-div-right, mul-add-mod-self-right, div-add-mod', div-mul-le-self, mod-lt}
+use lib.IntN.{ℤ}
 use lib.Dec.{ltb, eqb}
 use borrow.Author.Tests.{ltb-true, ltb-false, eqb-true, eqb-false}
-use Rattle.int128.specs.declared.Words.{Words}
 use Rattle.int128.specs.declared.Checked.{Checked}
 use Rattle.int128.specs.declared.Checked.the-variants.{None}
-use Rattle.int128.specs.Whole.{both, magnitude, signed, checked, quotient, divided}
-use Rattle.int128.proofs.Signs.{is-less, is-more}
+use Rattle.int128.specs.Whole.{both, signed, checked, quotient, divided}
+use Rattle.int128.proofs.Signs.{is-more, neg-zero}
 
 -- a number from once to twice the divisor
 once-div : (m n : ℕ) → n ≤ m → m < 2 * n → m / n ≡ 1
@@ -40,16 +39,21 @@ module _ (a b : ℕ) where
       let m : a / (2 * b) * (2 * b) ≤ a = div-mul-le-self a (2 * b) in
       omega arith
 
+-- a number below the divisor
+module _ (a b : ℕ) (t : Bool) (e : t ≡ ltb a b) where
+  pub small-div : t ≡ true → 0 ≡ a / b
+  small-div f = sym (div-eq-of-lt (ltb-true a b (sym e ∙ f)))
+
+  pub small-mod : t ≡ true → a ≡ a % b
+  small-mod f = sym (mod-eq-of-lt (ltb-true a b (sym e ∙ f)))
+
 -- `halved`
 pub room : (hi lo n : ℕ) → both hi lo ≡ 2 * n → lo < 18446744073709551616 → lo + 1 < 18446744073709551616
 room hi lo n e h = omega arith
 
 module _ (q rest b : ℕ) (t : Bool) (e : t ≡ ltb rest b) where
   pub halved-low : t ≡ true → (d : ℕ) → d ≡ 2 * q → d ≡ 2 * q + rest / b
-  halved-low f d g = rw (div-eq-of-lt (ltb-true rest b (sym e ∙ f))) (omega arith)
-
-  pub halved-rest : t ≡ true → rest ≡ rest % b
-  halved-rest f = sym (mod-eq-of-lt (ltb-true rest b (sym e ∙ f)))
+  halved-low f d g = rw (← small-div rest b t e f) (omega arith)
 
   pub halved-high : t ≡ false → rest < 2 * b → (hi lo : ℕ) → both hi lo ≡ 2 * q → both hi (lo + 1) ≡ 2 * q + rest / b
   halved-high f h hi lo g = rw (once-div rest b (ltb-false rest b (sym e ∙ f)) h) (omega arith)
@@ -57,7 +61,7 @@ module _ (q rest b : ℕ) (t : Bool) (e : t ≡ ltb rest b) where
   pub halved-less : t ≡ false → rest < 2 * b → (d : ℕ) → d ≡ rest - b → d ≡ rest % b
   halved-less f h d g = rw (once-mod rest b (ltb-false rest b (sym e ∙ f)) h) g
 
-pub ruleset halving = (is-more, room, halved-low, halved-rest, halved-high, halved-less)
+pub ruleset halving = (is-more, room, halved-low, small-mod, halved-high, halved-less)
 
 -- `divide`
 half-word : (ah al qh ql : ℕ) → 2 * both qh ql ≤ both ah al → al < 18446744073709551616 → 2 * qh ≤ ah
@@ -74,13 +78,6 @@ all-below ah al bh bl h l g = rw (← twice bh bl) (words-below ah al (2 * bh) (
 
     words-below : (ah al x y : ℕ) → ah < x → al < 18446744073709551616 → both ah al < both x y
     words-below ah al x y h l = omega arith
-
-module _ (a b : ℕ) (t : Bool) (e : t ≡ ltb a b) where
-  pub small-div : t ≡ true → 0 ≡ a / b
-  small-div f = sym (div-eq-of-lt (ltb-true a b (sym e ∙ f)))
-
-  pub small-mod : t ≡ true → a ≡ a % b
-  small-mod f = sym (mod-eq-of-lt (ltb-true a b (sym e ∙ f)))
 
 module _ (ah al bh bl : ℕ) (ha : ah < 18446744073709551616) (la : al < 18446744073709551616) where
   pub large-div : (t : Bool) → t ≡ ltb (both ah al) (both bh bl) → t ≡ false → 9223372036854775808 ≤ bh → 1 ≡ both ah al / both bh bl
@@ -125,9 +122,6 @@ module _ (ah al bh bl : ℕ) (i : ah ≡ 0) (j : bh ≡ 0) where
       rw (e, f) (omega arith)
 
 -- division by the signs
-neg-zero : (m : ℕ) → m ≡ 0 → pos m ≡ negℤ (pos m)
-neg-zero m e = rw e
-
 signed-quotient : (s t : Bool) (m n : ℕ) → 0 < n → divided (signed s m) (signed t n) ≡ checked (signed (xor s t) (m / n))
 unfolding xor divided quotient
 signed-quotient s t m zero h = absurd (omega arith)

@@ -251,7 +251,7 @@ pub ruleset differing = (is-less, is-more, differ-less, differ-more)
 pub ruleset adding = (add-unlike, add-alike, add-over)
 
 -- products by the signs
-neg-zero : (m : ℕ) → m ≡ 0 → pos m ≡ negℤ (pos m)
+pub neg-zero : (m : ℕ) → m ≡ 0 → pos m ≡ negℤ (pos m)
 neg-zero m e = rw e
 
 pub signed-times : (s t : Bool) (m n : ℕ) → signed s m *ℤ signed t n ≡ signed (xor s t) (m * n)

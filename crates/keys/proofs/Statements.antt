@@ -6,7 +6,7 @@ use mathlib.Core.Option.{none}
 use native.Mathlib.Omega.{arith}
 use lib.ListN.{length, getD}
 use Rattle.span.specs.declared.Span.{Span}
-use Rattle.ast.specs.Tree.{Text, GateOperand as Operand, Stmt, noStmt, noElse}
+use Rattle.ast.specs.Tree.{Stmt, noStmt, noElse}
 use Rattle.ast.specs.declared.ClassicalType.{ClassicalType}
 use Rattle.tree.specs.Ans.{ok, IsOk, nextOf}
 use Rattle.tree.specs.Read.{vec}
@@ -24,9 +24,8 @@ use Rattle.context.specs.Values.{kindOf, numberOf, endsOf, operandOf, foundOf}
 use Rattle.context.specs.View.{numberAt, spanAt, typeOf, scopesOf, gatesOf, functionsOf, keysIn}
 use Rattle.tables.specs.Tables.{Becomes}
 use Rattle.accepted.specs.Cases.{blankOperand}
-use Rattle.accepted.specs.Parts.{valueOr, is-ok, next-is, value-is, given-is, given-ok}
+use Rattle.accepted.specs.Parts.{valueOr, next-is, value-is, given-is, given-ok}
 use Rattle.accepted.specs.Bodies.{stmt-left, else-none, else-some, else-body}
-use Rattle.accepted.specs.Operands.{operand-is, operand-name}
 use Rattle.accepted.specs.Stmts as of
 use Rattle.sheet.specs.Sheet.{Indexed, KeysAdded}
 use Rattle.sheet.specs.Table.{AtLeast, more-long, keep-else}
@@ -44,14 +43,6 @@ size-none found ss x e f = ap sizeOf (sym (ap foundOf f) ∙ e)
 pub size-some : (found : FoundSymbol) (ss : Symbols) (x : ℕ) → foundOf found ≡ get ss x → (symbol : Symbol) → found ≡ FoundSymbol.Some symbol → numberOf (symbol .size) ≡ sizeOf (get ss x)
 unfolding sizeOf
 size-some found ss x e symbol f = ap sizeOf (sym (ap foundOf f) ∙ e)
-
--- the name of an operand that was read is one of the file's
-pub operand-below : (t : List Text) (tree : List ℕ) (at : ℕ) (op : GateOperand) (m : ℕ) → operand t tree at ≡ ok (operandOf op) m → op .name < length t
-operand-below t tree at op m e =
-    let h = is-ok e in
-    let n = value-is (operand-is t tree at h _ refl _ refl) blankOperand in
-    let o : op .name ≡ numberAt 2 tree at = ap (λ (q : Operand). q .name) (sym (value-is e blankOperand) ∙ n) in
-    rw o (operand-name t tree at h)
 
 module _ (tree : List ℕ) (left at : ℕ) (h : IsOk (stmt (textsOf tree) left tree at)) where
   -- no key is set

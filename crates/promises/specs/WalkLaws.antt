@@ -1,26 +1,30 @@
 -- How a function shows that it walked a statement. Assumes nothing.
-use Prim.Native.Nat.{ℕ, _-_, _<_}
-use mathlib.Core.Path.{_≡_, refl, sym, ap, _∙_}
+use Prim.Native.Nat.{ℕ, _-_}
+use mathlib.Core.Path.{_≡_, refl, sym}
 use mathlib.Core.List.{List}
-use lib.ListN.{length, drop}
 use Rattle.span.specs.declared.Span.{Span}
-use Rattle.ast.specs.Tree.{Text, Stmt, Stmts, noStmt}
-use Rattle.tree.specs.Ans.{Ans, ok, IsOk}
-use Rattle.tree.specs.Stmts.{body, stmt}
+use Rattle.ast.specs.Tree.{Text, Stmt}
+use Rattle.tree.specs.Ans.{ok}
+use Rattle.tree.specs.Stmts.{stmt}
 use Rattle.tree.specs.Decode.{textsOf}
+use Rattle.sema.specs.Symbols.{Symbols, GateSig, FunctionSig, Table}
 use Rattle.sema.specs.Marks.{Marks, Key, keep, mark, apply}
-use Rattle.sema.specs.Stmts.{SemaContext, analyzeStmt, analyzeStmts}
+use Rattle.sema.specs.Stmts.{SemaContext, analyzeStmt}
 use Rattle.context.specs.declared.State.{State}
-use Rattle.context.specs.View.{Placed, keysIn, scopesOf, functionsOf, contextOf}
-use Rattle.tables.specs.Tables.{tablesEnd, FewParams}
-use Rattle.accepted.specs.Parts.{valueOr, ok-is, next-is, given-is}
-use Rattle.promises.specs.Emitted.{Emitted, emitted-as}
-use Rattle.promises.specs.Walks.{Ready, Walk, Walked, walkStmt, walkBody, StmtWalked, BodyWalked}
+use Rattle.context.specs.View.{Placed, keysIn, contextOf}
+use Rattle.accepted.specs.Parts.{next-is, given-is}
+use Rattle.promises.specs.Emitted.{Emitted}
+use Rattle.promises.specs.Walks.{Ready, Walk, Walked, walkStmt, StmtWalked}
 
 -- a statement that does nothing to any mark leaves the marks
 pub marks-kept : (sp : Span) (m : Marks) → apply (λ (k : Key). keep) sp m ≡ m
 unfolding apply mark
 marks-kept sp m = refl
+
+-- contexts whose parts are the same
+pub context-is : {ss ss′ : Symbols} {gs gs′ : Table GateSig} {fs fs′ : Table FunctionSig} {m m′ : Marks} → ss ≡ ss′ → gs ≡ gs′ → fs ≡ fs′ → m ≡ m′
+    → _≡_ {A = SemaContext} (record { symbols = ss; gates = gs; functions = fs; measured = m }) (record { symbols = ss′; gates = gs′; functions = fs′; measured = m′ })
+context-is a b c d = λ i. record { symbols = a i; gates = b i; functions = c i; measured = d i }
 
 -- the walk by another name
 module _ {tree : List ℕ} {t : List Text} {ks : List Key} {depth : ℕ} {w v : Walk} {end k : ℕ} {st : State} {s o : List ℕ} {r : State} {s′ o′ : List ℕ} where

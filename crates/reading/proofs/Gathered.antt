@@ -38,11 +38,6 @@ unfolding pastTexts
 past-more s zero at = refl
 past-more s (suc i) at = past-more s i (past s at)
 
-texts-count : (s : List ℕ) (i at : ℕ) → length (textsFrom s i at) ≡ i
-unfolding textsFrom
-texts-count s zero at = refl
-texts-count s (suc i) at = ap suc (texts-count s i (past s at))
-
 -- allowed bytes leave the place as it is
 allowed-told : (cs : List ℕ) (place : ℕ) (s : List ℕ) (at : ℕ) → (allowed cs place s at ≡ ok tt at) ⊎ ((p : ℕ) × (allowed cs place s at ≡ refused 4 p))
 unfolding allowed check done refuse _>>_ bind

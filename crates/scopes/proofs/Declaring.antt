@@ -26,7 +26,7 @@ use Rattle.context.specs.View.{numberAt, spanAt, typeOf, stmtSpan, scopesOf, ga
 use Rattle.tables.specs.Tables.{Becomes, Inserted}
 use Rattle.accepted.specs.Cases.{qualifierOf}
 use Rattle.accepted.specs.Parts.{valueOr, next-is, value-is, given-is}
-use Rattle.accepted.specs.Fields.{option-none, option-held, one-in, one-below}
+use Rattle.accepted.specs.Fields.{option-none, option-held, one-below}
 use Rattle.accepted.specs.Operands.{someQualifier-is}
 use Rattle.accepted.specs.Stmts as of
 use Rattle.scopes.specs.declared.Declaration.{Declaration}
@@ -113,10 +113,6 @@ kind-bit c n = rw (ne-eqb c 1 n)
 
 -- the kind by the qualifier
 module _ (s : List ℕ) (at : ℕ) (h : IsOk (option qualifier s at)) where
-  pub qualifier-in : (getD s at 0 ≡ 0 → ⊥) → at + 1 < length s
-  unfolding qualifier
-  qualifier-in z = one-in s (at + 1) _ _ (option-held s at qualifier h z)
-
   pub kind-plain : (ty : ClassicalType) → getD s at 0 ≡ 0 → Classical ty ≡ declKind (valueOr none (option qualifier s at)) ty
   unfolding declKind
   kind-plain ty z = rw (value-is (option-none s at qualifier h z) none)

@@ -15,7 +15,7 @@ use Rattle.sema.specs.Messages.{SymbolKind, Qubit, Bit, Classical, Const, GateP
 use Rattle.sema.specs.Symbols.{Symbol, GateSig}
 use Rattle.context.specs.View.{typeOf, symbolBy, symbolAt, gateBy, functionBy}
 use Rattle.tables.specs.Entries.{codeOf, symbolBytes, gateBytes, functionBytes}
-use Rattle.tables.proofs.Bytes.{value-big}
+use Rattle.tree.proofs.Back.{value-big}
 use Rattle.tables.proofs.Codes.{type-number, kind-code}
 
 span-back : (sp : Span) → SpanFits sp → _≡_ {A = Span} (record { start = value 0 (big 4 (sp .start)); end = value 0 (big 4 (sp .end)) }) sp

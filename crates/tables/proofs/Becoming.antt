@@ -1,18 +1,19 @@
 -- Each change of the scratch, and what it has become. Assumes nothing.
-use Prim.Native.Nat.{ℕ, zero, suc, _+_, _-_, _*_, _≤_, _<_}
+use Prim.Native.Nat.{ℕ, suc, _+_, _-_, _*_, _≤_, _<_}
 use mathlib.Core.Path.{_≡_, ap₂, _∙_}
 use mathlib.Core.List.{List, _∷_}
 use mathlib.Core.Logic.{inl, inr}
 use mathlib.Core.Option.{some}
 use native.Mathlib.Omega.{arith}
-use lib.ListN.{length, getD, set, length-set}
-use lib.Seq.{sets, getD-set-same}
+use native.Mathlib.Decide.{decLe}
+use lib.ListN.{length, getD, set}
+use lib.Seq.{sets, getD-set-same, getD-set-other}
 use Rattle.span.specs.declared.Span.{Span}
 use Rattle.ast.specs.declared.ClassicalType.{ClassicalType}
 use Rattle.tree.specs.Fits.{SpanFits}
 use Rattle.sema.specs.Symbols.{Symbol, GateSig, Scope, Symbols}
 use Rattle.context.specs.View.{symbolAt, symbolPlace, scopesOf, gateBase, gatePlace, gatesOf, functionPlace, functionsOf}
-use Rattle.tables.specs.Entries.{SymbolFits, symbolBytes, gateBytes, typeBytes, functionBytes, emptied}
+use Rattle.tables.specs.Entries.{SymbolFits, symbolBytes, gateBytes, typeBytes, functionBytes}
 use Rattle.tables.specs.Tables.{tablesEnd, Becomes, Inserted, Entered, GateDefined, FunctionDefined, FewParams, functionIn}
 use Rattle.tables.specs.Laws.{scope-empty, length-types}
 use Rattle.tables.proofs.Frame.{Outside, outside-none, outside-set, outside-sets, same-drop}
@@ -49,30 +50,33 @@ inserted s t depth x v room inner few small e h =
     let n : suc (depth - 1) ≡ depth = omega arith in
     rw n at (inserted-at s t (depth - 1) x v room (omega arith) small e h)
 
--- a scope entered
-outside-emptied : {a b : ℕ} {s t : List ℕ} (at n : ℕ) → Outside a b s t → a ≤ at → at + n * 18 ≤ b → Outside a b s (emptied t at n)
-unfolding emptied
-outside-emptied at zero r h k = r
-outside-emptied at (suc n) r h k = outside-emptied (at + 18) n (outside-set at 0 r h (omega arith)) (omega arith) (omega arith)
+-- a scope entered: of its level the first i bytes are cleared
+pub record Emptying (s : List ℕ) (base : ℕ) (t : List ℕ) (i : ℕ) : Type 0 where
+  pub within : i ≤ 4608
+  pub outside : Outside base (base + 4608) s t
+  pub zeros : (j : ℕ) → j < i → getD t (base + j) 0 ≡ 0
 
-emptied-zero : (s : List ℕ) (at n i : ℕ) → i < n → at + n * 18 ≤ length s → getD (emptied s at n) (at + i * 18) 0 ≡ 0
-unfolding emptied
-emptied-zero s at zero i h room = absurd (omega arith)
-emptied-zero s at (suc n) zero h room =
-    let z : at + 0 * 18 ≡ at = omega arith in
-    let o = outside-emptied (at + 18) n (outside-none (at + 18) (at + 18 + n * 18) (set s at 0)) (omega arith) (omega arith) in
-    rw z (o .same at (inl (omega arith)) ∙ getD-set-same s at 0 0 (omega arith))
-emptied-zero s at (suc n) (suc i) h room =
-    let z : at + 18 + i * 18 ≡ at + suc i * 18 = omega arith in
-    rw z at (emptied-zero (set s at 0) (at + 18) n i (omega arith) (rw length-set (omega arith)))
+pub emptying-start : (s : List ℕ) (base : ℕ) → Emptying s base s 0
+emptying-start s base = record { within = omega arith; outside = outside-none base (base + 4608) s; zeros = λ j h. absurd (omega arith) }
 
-pub entered : (s t : List ℕ) (depth : ℕ) → 65536 ≤ length s → depth < 9 → t ≡ emptied s (depth * 4608) 256 → Entered s t depth
+pub emptying-more : {s : List ℕ} {base : ℕ} {t : List ℕ} {i : ℕ} → Emptying s base t i → i < 4608 → base + i < length t → Emptying s base (set t (base + i) 0) (i + 1)
+emptying-more {base = base} {t = t} {i = i} r h room =
+    record {
+      within = omega arith;
+      outside = outside-set (base + i) 0 (r .outside) (omega arith) (omega arith);
+      zeros = λ j l.
+          elim (decLe i j) [
+            | yes g ↦ (let e : j ≡ i = omega arith in rw e (getD-set-same t (base + i) 0 0 room))
+            | no g ↦ getD-set-other t (base + i) (base + j) 0 0 (omega arith) ∙ r .zeros j (omega arith)
+          ];
+    }
+
+pub entered : {s t : List ℕ} {depth i : ℕ} → depth < 9 → 4608 ≤ i → Emptying s (depth * 4608) t i → Entered s t depth
 unfolding scopesOf
-entered s t depth room few e =
-    let base = depth * 4608 in
-    let o : Outside base (base + 4608) s (emptied s base 256) = outside-emptied base 256 (outside-none base (base + 4608) s) (omega arith) (omega arith) in
-    let top = scope-empty (emptied s base 256) depth (λ x h. emptied-zero s base 256 x h (omega arith)) in
-    rw e (in-scopes o (omega arith) (ap₂ (λ (c : Scope) (ss : Symbols). c ∷ ss) top (scopes-kept o depth (omega arith))))
+entered {s = s} {t = t} {depth = depth} few h r =
+    let o = r .outside in
+    let top = scope-empty t depth (λ x l. r .zeros (x * 18) (omega arith)) in
+    in-scopes o (omega arith) (ap₂ (λ (c : Scope) (ss : Symbols). c ∷ ss) top (scopes-kept o depth (omega arith)))
 
 pub gate-defined : (s t : List ℕ) (x : ℕ) (g : GateSig) → 65536 ≤ length s → x < 256 → t ≡ sets s (gatePlace x) (gateBytes g) → SpanFits (g .decl-span) → GateDefined s t x g
 gate-defined s t x g room small e h depth few =

@@ -1,29 +1,18 @@
 -- Numbers in bytes: read forward and stored backward, one law for every width. Assumes nothing.
 use Prim.Native.Nat.{ℕ, suc, _+_, _-_, _*_, _/_, _%_, _^_, _≤_, _<_}
-use mathlib.Core.Path.{_≡_, refl, sym, ap, _∙_}
-use mathlib.Core.List.{List, [], _∷_, _++_, append-nil}
+use mathlib.Core.Path.{_≡_, refl, sym, _∙_}
+use mathlib.Core.List.{List, [], _∷_, _++_}
 use native.Mathlib.Omega.{arith}
 use native.Mathlib.Nat.{add-zero, pow-succ', pow-le-pow-right}
 use native.Mathlib.Numerals.{add-one}
 use lib.ListN.{length, getD, set, take, drop, length-set}
-use lib.Seq.{take-all, drop-cons, set-comm, sets}
+use lib.Seq.{drop-cons, set-comm, sets}
 use lib.Dec.{lit<}
-use borrow.Author.Tests.{le-leb}
-use Rattle.tree.specs.Ans.{_>>=_, bind, done, given}
+use Rattle.tree.specs.Ans.{done}
 use Rattle.tree.specs.Read.{value, number, bytes, within}
 use Rattle.tree.specs.Encode.{big}
-use Rattle.tree.specs.Fits.{NumberFits}
-use Rattle.tree.proofs.Back.{length-big, number-reads}
+use Rattle.tree.proofs.Back.{length-big}
 use Rattle.context.specs.View.{numberAt}
-
--- the bytes of a number have its value, as the reader of numbers finds it in them
-pub value-big : (width n : ℕ) → NumberFits width n → value 0 (big width n) ≡ n
-unfolding number bytes within _>>=_ bind done given
-value-big width n h =
-    let b = big width n in
-    let long : 0 + width ≤ length b = omega (arith, length-big width n) in
-    let p = number-reads width n h .reads (record { front = []; rest = []; parts = sym (append-nil b); place = refl }) in
-    rw (take-all width b (omega (arith, length-big width n))) at (ap (given 0 (λ v. v)) (rw (le-leb (0 + width) (length b) long) at p))
 
 -- i bytes of the number at a place are read
 pub record Reading (s : List ℕ) (at width v i : ℕ) : Type 0 where

@@ -4,7 +4,6 @@ use mathlib.Core.Path.{_≡_, refl, sym, ap, _∙_, subst}
 use mathlib.Core.List.{List, [], _∷_, _++_, append-nil}
 use mathlib.Core.Option.{Option, none, some}
 use native.Mathlib.Omega.{arith}
-use native.Mathlib.Nat.{add-zero}
 use native.Mathlib.Numerals.{add-one, towards-suc}
 use lib.ListN.{length, getD, set, drop, replicate, length-set}
 use lib.Seq.{sets}
@@ -17,15 +16,10 @@ use Rattle.tree.specs.Fits.{NumberFits, OptionFits}
 use Rattle.sema.specs.Symbols.{Symbol, GateSig}
 use Rattle.context.specs.declared.Number.{Number}
 use Rattle.context.specs.Values.{numberOf as sizeOf}
-use Rattle.tables.specs.Entries.{codeOf, spanBytes, sizeBytes, symbolBytes, gateBytes, typeBytes, functionBytes, emptied}
+use Rattle.tables.specs.Entries.{codeOf, spanBytes, sizeBytes, symbolBytes, gateBytes, typeBytes, functionBytes}
 use Rattle.tables.specs.Tables.{cleared}
+use Rattle.text.proofs.Sets.{sets-append}
 use Rattle.tree.proofs.Back.{length-big}
-
-sets-append : (xs ys : List ℕ) (s : List ℕ) (at : ℕ) → sets s at (xs ++ ys) ≡ sets (sets s at xs) (at + length xs) ys
-sets-append [] ys s at = rw (add-zero at)
-sets-append (x ∷ xs) ys s at =
-    let e : suc at + length xs ≡ at + suc (length xs) = omega arith in
-    sets-append xs ys (set s at x) (suc at) ∙ rw e
 
 -- two runs of stores, one behind the other
 pub joined : (xs ys : List ℕ) (s t u : List ℕ) (at n : ℕ) → length xs ≡ n → t ≡ sets s at xs → u ≡ sets t (at + n) ys → u ≡ sets s at (xs ++ ys)
@@ -33,10 +27,6 @@ joined xs ys s t u at n l e f = f ∙ rw (e, ← l) (sym (sets-append xs ys s at
 
 pub span-stored : (s t u : List ℕ) (at : ℕ) (sp : Span) → t ≡ sets s at (big 4 (sp .start)) → u ≡ sets t (at + 4) (big 4 (sp .end)) → u ≡ sets s at (spanBytes sp)
 span-stored s t u at sp e f = joined (big 4 (sp .start)) (big 4 (sp .end)) s t u at 4 (length-big 4 (sp .start)) e f
-
-pub length-span : (sp : Span) → length (spanBytes sp) ≡ 8
-unfolding big
-length-span sp = refl
 
 length-size : (z : Option ℕ) → length (sizeBytes z) ≡ 9
 unfolding big
@@ -114,26 +104,6 @@ module _ {s : List ℕ} {to : ℕ} {tree : List ℕ} {at count : ℕ} {t : List 
   pub copying-end : count ≤ i → t ≡ sets s to (typeBytes tree at count)
   unfolding typeBytes
   copying-end h = let e : count - i ≡ 0 = omega arith in rw e at (r .same)
-
--- of the entries of a level some are still to be emptied
-pub record Emptying (s : List ℕ) (base : ℕ) (t : List ℕ) (at left : ℕ) : Type 0 where
-  pub within : at + left * 18 ≡ base + 4608
-  pub size : length t ≡ length s
-  pub same : emptied t at left ≡ emptied s base 256
-
-pub emptying-start : (s : List ℕ) (base : ℕ) → Emptying s base s base 256
-emptying-start s base = record { within = refl; size = refl; same = refl }
-
-module _ {s : List ℕ} {base : ℕ} {t : List ℕ} {at left : ℕ} (r : Emptying s base t at left) where
-  pub emptying-more : 0 < left → Emptying s base (set t at 0) (at + 18) (left - 1)
-  unfolding emptied
-  emptying-more h =
-      let e : left ≡ suc (left - 1) = omega arith in
-      record { within = omega (arith, r .within); size = length-set t at 0 ∙ r .size; same = rw e at (r .same) }
-
-  pub emptying-end : left ≤ 0 → t ≡ emptied s base 256
-  unfolding emptied
-  emptying-end h = let e : left ≡ 0 = omega arith in rw e at (r .same)
 
 -- the first i bytes are cleared
 pub record Clearing (s t : List ℕ) (i : ℕ) : Type 0 where

@@ -24,9 +24,6 @@ use Rattle.tables.specs.Tables.{briefOf, paramsOf}
 some-suc : (n : ℕ) → (n ≡ 0 → ⊥) → n ≡ suc (n - 1)
 some-suc n h = omega arith
 
-pub span-read : (s : List ℕ) (at a b : ℕ) → a ≡ numberAt 4 s at → b ≡ numberAt 4 s (at + 4) → _≡_ {A = Span} (record { start = a; end = b }) (spanAt s at)
-span-read s at a b e f = rw (e, f)
-
 pub size-none : (s : List ℕ) (at n : ℕ) → getD s at 0 ≡ 0 → numberOf Number.None ≡ sizeBy (getD s at 0) n
 size-none s at n e = rw e
 

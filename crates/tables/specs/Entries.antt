@@ -2,7 +2,7 @@
 use Prim.Native.Nat.{ℕ, zero, suc, _+_}
 use mathlib.Core.List.{List, [], _∷_, _++_}
 use mathlib.Core.Option.{Option, none, some}
-use lib.ListN.{getD, set}
+use lib.ListN.{getD}
 use Rattle.span.specs.declared.Span.{Span}
 use Rattle.ast.specs.declared.ClassicalType.{ClassicalType}
 use Rattle.types.specs.Types.{numberOf}
@@ -10,7 +10,6 @@ use Rattle.tree.specs.Encode.{big}
 use Rattle.tree.specs.Fits.{NumberFits, SpanFits, OptionFits}
 use Rattle.sema.specs.Messages.{SymbolKind, Qubit, Bit, Classical, Const, GateParam, GateQubit}
 use Rattle.sema.specs.Symbols.{Symbol, GateSig}
-use Rattle.context.specs.View.{symbolSize}
 
 -- the code of a kind: its place among the kinds, counted from 1
 abbrev pub codeOf : SymbolKind → ℕ
@@ -46,8 +45,3 @@ typeBytes tree at (suc n) = getD tree at 0 ∷ typeBytes tree (at + 3) n
 
 unfoldable pub functionBytes : ClassicalType → Span → ℕ → List ℕ → List ℕ
 functionBytes ty sp count types = 1 ∷ numberOf ty ∷ count ∷ (spanBytes sp ++ types)
-
--- so many entries of the symbols from a place on, their kinds 0
-unfoldable pub emptied : List ℕ → ℕ → ℕ → List ℕ
-emptied s at zero = s
-emptied s at (suc n) = emptied (set s at 0) (at + symbolSize) n

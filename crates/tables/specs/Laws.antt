@@ -1,10 +1,11 @@
 -- Laws of the tables for those who call this crate. Assumes nothing.
-use Prim.Native.Nat.{ℕ, zero, suc, _+_, _≤_, _<_}
+use Prim.Native.Nat.{ℕ, zero, suc, _≤_, _<_}
 use mathlib.Core.Path.{_≡_, refl, ap, _∙_, fun-ext}
 use mathlib.Core.List.{List, [], _∷_, _++_, map}
 use mathlib.Core.Bool.{Bool, true, false}
 use mathlib.Core.Option.{Option, none}
 use native.Mathlib.Omega.{arith}
+use native.Mathlib.Decide.{decLe}
 use lib.ListN.{length, getD, drop, replicate, length-replicate, getD-replicate, length-map, List·getD-append}
 use lib.Dec.{ltb, eqb}
 use borrow.Author.Tests.{ltb-true}
@@ -28,6 +29,16 @@ outer (c ∷ ss) = ss
 pub scopes-below : {s t : List ℕ} {depth : ℕ} {c : Scope} {ss : Symbols} {gates : Table GateSig} {functions : Table FunctionSig} → Becomes s t (suc depth) (c ∷ ss) gates functions → scopesOf t depth ≡ ss
 unfolding scopesOf
 scopes-below b = ap outer (b .scopes-are)
+
+-- where so many scopes stay, fewer do
+pub scopes-fewer : (s t : List ℕ) (n d : ℕ) → scopesOf t n ≡ scopesOf s n → d ≤ n → scopesOf t d ≡ scopesOf s d
+unfolding scopesOf
+scopes-fewer s t zero d e l = let z : d ≡ 0 = omega arith in rw z e
+scopes-fewer s t (suc n) d e l =
+    elim (decLe d n) [
+      | yes h ↦ scopes-fewer s t n d (ap outer e) h
+      | no h ↦ (let f : d ≡ suc n = omega arith in rw f e)
+    ]
 
 -- so a symbol given at a level leaves the scopes below it
 pub insert-below : {s t : List ℕ} {depth : ℕ} (x : ℕ) (sym : Symbol) → Inserted s t (suc depth) x sym → scopesOf t depth ≡ scopesOf s depth

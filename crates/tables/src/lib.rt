@@ -254,12 +254,11 @@ pub fn enter(scratch: &mut [u8], depth: usize)
     requires { ⌜ (65536 ≤ length (now scratch)) × (depth < 9) ⌝ }
     ensures { λ _. ⌜ Entered (now (scratch .entry)) (now (scratch .exit)) depth ⌝ }
 {
-    let mut at = depth * LEVEL;
-    let mut left: usize = 256;
-    while 0 < left {
-        scratch[at] = 0;
-        at += SYMBOL;
-        left -= 1;
+    let at = depth * LEVEL;
+    let mut i = 0;
+    while i < LEVEL {
+        scratch[at + i] = 0;
+        i += 1;
     }
 }
 

@@ -1,3 +1,4 @@
 pub mod Clamp
 pub mod Same
+pub mod Sets
 pub mod Table

@@ -1,11 +1,16 @@
 -- A rule of a table at each of its entries, from one test over the whole table. Assumes nothing.
-use mathlib.Core.Path.{_∙_, subst, sym}
+use mathlib.Core.Path.{_≡_, refl, _∙_, subst, sym}
 use mathlib.Core.Bool.{Bool, true, false, _&&_}
 use mathlib.Core.List.{List, [], _∷_}
 use Prim.Native.Nat.{ℕ, zero, suc, _+_, _<_}
 use native.Mathlib.Nat.{add-zero, zero-add, add-suc, suc-add, le-of-suc-le-suc, not-suc-le-zero}
 use lib.Dec.{T}
 use lib.ListN.{length, getD}
+
+-- a test that passes is true
+pub true-of : (b : Bool) → T b → b ≡ true
+true-of true t = refl
+true-of false t = absurd t
 
 pub and-left : (a b : Bool) → T (a && b) → T a
 and-left true b t = tt

@@ -104,7 +104,7 @@ unfolding value
 value-snoc [] high b = refl
 value-snoc (c ∷ bs) high b = value-snoc bs (high * 256 + c) b
 
-value-big : (width n : ℕ) → NumberFits width n → value 0 (big width n) ≡ n
+pub value-big : (width n : ℕ) → NumberFits width n → value 0 (big width n) ≡ n
 unfolding big value
 value-big zero n h = omega (arith, rw (pow-zero 256) at h)
 value-big (suc width) n h =

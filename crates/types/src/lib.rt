@@ -3,7 +3,6 @@ use ast::ClassicalType;
 ghost use mathlib.Core.Path.{_≡_};
 ghost use Prim.Native.Nat.{_<_};
 ghost use Rattle.types.specs.Types.{numberOf, assignableTo, numeric, rankOf, arithmeticOf};
-ghost use Rattle.types.specs.Names.{nameIn, nameOf, typeNames};
 
 // What an arithmetic expression has: a type, or none.
 pub enum Typed {
@@ -19,12 +18,6 @@ const ASSIGNABLE: [[bool; 5]; 5] = [
     [true, true, true, true, false],
     [false, false, false, false, true],
 ];
-
-// The names of the types, one after the other.
-pub const TYPE_NAMES: [u8; 21] = *b"intuintfloatanglebool";
-
-// Where each name starts, and where the last one ends.
-const NAME_AT: [usize; 6] = [0, 3, 7, 12, 17, 21];
 
 fn number(ty: ClassicalType) -> usize
     ensures { λ r. ⌜ (r ≡ numberOf ty) × (r < 5) ⌝ }
@@ -83,13 +76,4 @@ pub fn arithmetic_type(lhs: ClassicalType, rhs: ClassicalType) -> Typed
         return Typed::Type(rhs);
     }
     Typed::Type(lhs)
-}
-
-// The name of a type, as a part of the wording that is lent.
-pub fn type_name<'a>(names: &'a [u8], ty: ClassicalType) -> &'a [u8]
-    ensures place { λ r. ⌜ now r ≡ nameIn (now (names .entry)) ty ⌝ }
-    ensures named { λ r. ⌜ (now (names .entry) ≡ typeNames → now r ≡ nameOf ty) ⌝ }
-{
-    let n = number(ty);
-    text::part(names, NAME_AT[n], NAME_AT[n + 1])
 }

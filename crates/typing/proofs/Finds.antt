@@ -11,33 +11,16 @@ use Rattle.context.specs.declared.Sink.{Sink}
 use Rattle.context.specs.declared.Typing.{Typing as TypingValue}
 use Rattle.context.specs.Sink.{SinkFits}
 use Rattle.lines.specs.declared.Message.{Message}
-use Rattle.lines.specs.declared.Note.{Note}
 use Rattle.lines.specs.declared.Diagnostic.{Diagnostic as DiagnosticValue}
-use Rattle.lines.specs.Values.{diagnosticOf, errorOf, errorWithNoteOf, nameIn, nameInNote, Below, Fits, Reported}
-use Rattle.promises.specs.Emitted.{Emitted, emitted-none, emitted-one}
+use Rattle.lines.specs.Values.{diagnosticOf, errorOf, Reported}
+use Rattle.promises.specs.Emitted.{emitted-none, emitted-report}
 use Rattle.typing.specs.Checks.{Found, hasType}
 
 -- no type, and an error said at a span
 abbrev pub refused : Message → Span → Typing
 refused m sp = untyped (diagnosticOf (errorOf m sp) ∷ [])
 
--- what `report` asks of an error
-module _ {n : ℕ} {d : DiagnosticValue} {m : Message} {sp : Span} where
-  pub error-fits : d ≡ errorOf m sp → Below n (nameIn m) → Fits n d
-  error-fits e b = rw e (record { named = b; noted = tt })
-
-  pub noted-fits : {note : Note} {at : Span} → d ≡ errorWithNoteOf m sp note at → Below n (nameIn m) → Below n (nameInNote note) → Fits n d
-  noted-fits e b c = rw e (record { named = b; noted = c })
-
 module _ {t : List Text} {s : Sink} {o : List ℕ} where
-  -- an error, and one with a note
-  module _ {d : DiagnosticValue} {m : Message} {sp : Span} {r : Sink} {o′ : List ℕ} where
-    pub error-said : d ≡ errorOf m sp → Reported t d s o r o′ → Emitted t (diagnosticOf (errorOf m sp) ∷ []) s o r o′
-    error-said e p = emitted-one (rw e at p)
-
-    pub noted-said : {note : Note} {at : Span} → d ≡ errorWithNoteOf m sp note at → Reported t d s o r o′ → Emitted t (diagnosticOf (errorWithNoteOf m sp note at) ∷ []) s o r o′
-    noted-said e p = emitted-one (rw e at p)
-
   module _ {end : ℕ} where
     pub found-typed : {ty : ClassicalType} {r : TypingValue} → SinkFits s → r ≡ hasType ty end s → Found t (typed ty) end s o r o
     found-typed f e = rw e (record { next = refl; type = refl; emitted = emitted-none f })
@@ -46,4 +29,4 @@ module _ {t : List Text} {s : Sink} {o : List ℕ} where
     found-nothing f = record { next = refl; type = refl; emitted = emitted-none f }
 
     pub found-error : {d : DiagnosticValue} {m : Message} {sp : Span} {r : Sink} {o′ : List ℕ} → d ≡ errorOf m sp → Reported t d s o r o′ → Found t (refused m sp) end s o (record { typed = None; next = end; sink = r }) o′
-    found-error e p = record { next = refl; type = refl; emitted = error-said e p }
+    found-error e p = record { next = refl; type = refl; emitted = emitted-report e p }

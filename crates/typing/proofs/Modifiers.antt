@@ -1,12 +1,11 @@
 -- Modifiers, for each way out of the code. Assumes nothing.
-use Prim.Native.Nat.{ℕ, zero, suc, _+_, _≤_, _<_}
+use Prim.Native.Nat.{ℕ, _+_}
 use mathlib.Core.Path.{_≡_, refl, sym, ap, _∙_}
 use mathlib.Core.Bool.{Bool, true, false}
 use mathlib.Core.List.{List, []}
 use mathlib.Core.Option.{none}
-use mathlib.Core.Logic.{_⊎_, inl, inr, ⊎-elim}
-use native.Mathlib.Omega.{arith}
-use lib.ListN.{length, getD}
+use mathlib.Core.Logic.{⊎-elim}
+use lib.ListN.{getD}
 use Rattle.span.specs.declared.Span.{Span}
 use Rattle.ast.specs.Tree.{Text}
 use Rattle.ast.specs.declared.ClassicalType.{ClassicalType}
@@ -91,17 +90,11 @@ module _ (t : List Text) (ss : Symbols) (fs : Table FunctionSig) (s : List ℕ) 
 
 -- `ctrl` and `negctrl` have one shape
 module _ (t : List Text) (s : List ℕ) (at : ℕ) (h : IsOk (modifier t s at)) (n : getD s at 0 ≡ 2 → ⊥) (o : getD s at 0 ≡ 3 → ⊥) where
-  pub control-count : IsOk (option (held t) s (at + 1))
-  control-count = of.control-count t s at h n o
-
-  pub control-inside : nextOf (option (held t) s (at + 1)) + 8 ≤ length s
-  control-inside = of.control-inside t s at h n o _ refl
-
   module _ (ss : Symbols) (fs : Table FunctionSig) {k : Sink} {q : List ℕ} {a : After} {q′ : List ℕ} (p : SaidOf t (λ arg. controlSays ss fs arg (span-behind t s (at + 1))) (option (held t) s (at + 1)) k q a q′) where
     pub control-said : SaidOf t (checkModifier ss fs) (modifier t s at) k q (record { next = a .next + 8; sink = a .sink }) q′
     unfolding checkModifier
     control-said =
-        let here = emitted-as (p .emitted) (given-ok none [] (λ arg. controlSays ss fs arg (span-behind t s (at + 1))) _ control-count) in
+        let here = emitted-as (p .emitted) (given-ok none [] (λ arg. controlSays ss fs arg (span-behind t s (at + 1))) _ (of.control-count t s at h n o)) in
         ⊎-elim
         (λ b. let is = of.ctrl-is t s at h b _ refl in record { next = ap (λ n. n + 8) (p .next) ∙ sym (next-is is); emitted = emitted-as here (sym (given-is is [] (checkModifier ss fs))) })
         (λ b. let is = of.negCtrl-is t s at h b _ refl in record { next = ap (λ n. n + 8) (p .next) ∙ sym (next-is is); emitted = emitted-as here (sym (given-is is [] (checkModifier ss fs))) })

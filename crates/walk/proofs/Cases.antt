@@ -29,10 +29,10 @@ use Rattle.accepted.specs.Stmts.{gateDef-body, gateDef-is, gateDef-inside, bran
 use Rattle.promises.specs.Emitted.{emitted-none, emitted-then, emitted-as}
 use Rattle.promises.specs.Typings.{plainContext}
 use Rattle.promises.specs.Walks.{Ready, StmtKeyed, BodyKeyed, Walked, StmtWalked, BodyWalked}
-use Rattle.promises.specs.WalkLaws.{stmt-walked}
+use Rattle.promises.specs.WalkLaws.{context-is, stmt-walked}
 use Rattle.bodies.specs.Opened.{Opened, gateQubits, gateBody, gateSpan, gateParams, gateQparams, forBody, forSpan, GateOpened, ConditionOpened, ForOpened, ElseOpened}
 use Rattle.walk.specs.Bodies.{ElseKeyed, walkElse}
-use Rattle.walk.proofs.Enclosed.{context-is, level, inner, enclosed, ended-marks, ended-context, body-walked, else-same}
+use Rattle.walk.proofs.Enclosed.{level, inner, enclosed, ended-marks, ended-context, body-walked, else-same}
 
 -- the range of a `for` is checked by the symbols and the functions alone
 step-same : (c : SemaContext) (e : Option Expr) → stepSays (plainContext (c .symbols) (c .functions)) e ≡ stepSays c e

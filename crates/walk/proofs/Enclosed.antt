@@ -1,46 +1,25 @@
 -- A statement with a body: what is before the body, and the body, make the walk over the statement. Assumes nothing.
-use Prim.Native.Nat.{ℕ, zero, suc, _+_, _-_, _≤_, _<_}
-use mathlib.Core.Path.{_≡_, refl, sym, ap, subst, _∙_}
-use native.Mathlib.Decide.{decLe}
-use mathlib.Core.List.{List, [], _∷_, _++_}
+use Prim.Native.Nat.{ℕ, suc, _-_, _≤_, _<_}
+use mathlib.Core.Path.{_≡_, sym, ap, subst, _∙_}
+use mathlib.Core.List.{List, _∷_, _++_}
 use native.Mathlib.Omega.{arith}
-use lib.ListN.{length, drop}
 use Rattle.ast.specs.Tree.{Text, Stmts, noStmt, Else, noElse, someElse}
-use Rattle.tree.specs.Ans.{ok, nextOf, IsOk}
+use Rattle.tree.specs.Ans.{nextOf, IsOk}
 use Rattle.tree.specs.Stmts.{body, stmt}
 use Rattle.tree.specs.Decode.{textsOf}
 use Rattle.sema.specs.Messages.{Diagnostic}
-use Rattle.sema.specs.Symbols.{Symbols, Scope, Table, GateSig, FunctionSig}
+use Rattle.sema.specs.Symbols.{Scope, Table, GateSig}
 use Rattle.sema.specs.Marks.{Key, Marks}
-use Rattle.sema.specs.Stmts.{SemaContext, enter, leave, analyzeStmts, analyzeElse}
+use Rattle.sema.specs.Stmts.{SemaContext, leave, analyzeStmts, analyzeElse}
 use Rattle.context.specs.declared.State.{State}
-use Rattle.context.specs.View.{Placed, keysIn, scopesOf, gatesOf, functionsOf, marksOf, contextOf}
-use Rattle.tables.specs.Tables.{Becomes, FewParams}
-use Rattle.tables.specs.Laws.{scopes-below, few-after}
+use Rattle.context.specs.View.{Placed, keysIn, scopesOf, functionsOf, marksOf, contextOf}
+use Rattle.tables.specs.Laws.{few-after}
 use Rattle.accepted.specs.Parts.{valueOr, given-ok}
-use Rattle.promises.specs.Emitted.{Emitted, emitted-then, emitted-as}
-use Rattle.promises.specs.Walks.{Ready, Walk, Walked, walkBody, BodyWalked, BodyKeyed}
-use Rattle.promises.specs.WalkLaws.{walked-as}
+use Rattle.scopes.specs.Laws.{entered-below}
+use Rattle.promises.specs.Emitted.{emitted-then, emitted-as}
+use Rattle.promises.specs.Walks.{Ready, Walk, Walked, walkBody, BodyWalked}
+use Rattle.promises.specs.WalkLaws.{context-is, walked-as}
 use Rattle.bodies.specs.Opened.{Opened}
-
-pub context-is : {ss ss′ : Symbols} {gs gs′ : Table GateSig} {fs fs′ : Table FunctionSig} {m m′ : Marks} → ss ≡ ss′ → gs ≡ gs′ → fs ≡ fs′ → m ≡ m′
-    → _≡_ {A = SemaContext} (record { symbols = ss; gates = gs; functions = fs; measured = m }) (record { symbols = ss′; gates = gs′; functions = fs′; measured = m′ })
-context-is a b c d = λ i. record { symbols = a i; gates = b i; functions = c i; measured = d i }
-
-abbrev outer : Symbols → Symbols
-outer [] = []
-outer (c ∷ ss) = ss
-
--- scopes that are the same at a depth are the same below it
-below-same : (s s′ : List ℕ) (depth : ℕ) → scopesOf s′ depth ≡ scopesOf s depth → (d : ℕ) → d ≤ depth → scopesOf s′ d ≡ scopesOf s d
-unfolding scopesOf
-below-same s s′ zero e zero l = refl
-below-same s s′ zero e (suc d) l = absurd (omega arith)
-below-same s s′ (suc depth) e d l =
-    elim (decLe (suc depth) d) [
-      | yes h ↦ (let f : d ≡ suc depth = omega arith in rw f e)
-      | no h ↦ below-same s s′ depth (ap outer e) d (omega arith)
-    ]
 
 pub level : (left : ℕ) → 0 < left → left ≤ 8 → 9 - (left - 1) ≡ suc (9 - left)
 level left a b = omega arith
@@ -54,7 +33,7 @@ module _ (tree : List ℕ) {t : List Text} (ks : List Key) {depth : ℕ} {scope 
   opened-context = context-is (p .becomes .scopes-are) (p .becomes .gates-are) (p .becomes .functions-are) (ap (marksOf tree ks) (p .marks))
 
   pub opened-below : (d : ℕ) → d ≤ depth → scopesOf s′ d ≡ scopesOf s d
-  opened-below = below-same s s′ depth (scopes-below (p .becomes))
+  opened-below = entered-below (p .becomes)
 
   pub opened-ready : Ready tree s st → Ready tree s′ i
   opened-ready r = record { room = omega (arith, p .becomes .same-length, r .room); few = few-after (p .becomes) (r .few); placed = rw (p .marks) (r .placed); fits = p .emitted .fits }

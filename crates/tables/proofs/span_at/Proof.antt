@@ -1,6 +1,6 @@
 -- `tables::span_at` meets its contract. Assumes nothing.
 use borrow.Author.Needs.{needs}
-use Rattle.tables.proofs.Views.{span-read}
+use Rattle.context.specs.View.{span-from}
 use Rattle.tables.proofs.span_at.Statement.{statement}
 use Rattle.tables.proofs.span_at.Tie as tie
 
@@ -12,4 +12,4 @@ span-at-spec =
     (λ c κs. search needs)  -- number-requires-2
     (λ c. search needs)  -- cast-t6
     (λ c. search needs)  -- cast-t7
-    (λ c. search span-read))  -- returns
+    (λ c. search span-from))  -- returns

@@ -1,7 +1,7 @@
 -- `typing::check_control` meets its contract. Assumes nothing.
 use native.Mathlib.Omega.{arith}
 use Rattle.accepted.specs.Fields.{option-in, option-held, option-some-next}
-use Rattle.typing.proofs.Finds.{error-fits}
+use Rattle.promises.specs.Emitted.{error-fits}
 use Rattle.typing.proofs.Modifiers.{control-absent, control-right, control-wrong}
 use borrow.Author.Needs.{needs}
 use Rattle.typing.proofs.check_control.Statement.{statement}

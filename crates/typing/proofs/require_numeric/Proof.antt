@@ -1,6 +1,6 @@
 -- `typing::require_numeric` meets its contract. Assumes nothing.
 use native.Mathlib.Omega.{arith}
-use Rattle.typing.proofs.Finds.{error-fits}
+use Rattle.promises.specs.Emitted.{error-fits}
 use Rattle.typing.proofs.Spans.{span-room, span-in}
 use Rattle.typing.proofs.Requires.{numeric-absent, numeric-right, numeric-wrong}
 use borrow.Author.Needs.{needs}

@@ -1,6 +1,6 @@
 -- `accepted::numbers::span_at` meets its contract. Assumes nothing.
 use borrow.Author.Needs.{needs}
-use Rattle.accepted.proofs.Halves.{span-from}
+use Rattle.context.specs.View.{span-from}
 use Rattle.accepted.proofs.numbers.span_at.Statement.{statement}
 use Rattle.accepted.proofs.numbers.span_at.Tie as tie
 

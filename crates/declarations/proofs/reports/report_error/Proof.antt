@@ -1,6 +1,6 @@
 -- `declarations::reports::report_error` meets its contract. Assumes nothing.
 use borrow.Author.Needs.{needs}
-use Rattle.declarations.proofs.Sayings.{fits-error, reported}
+use Rattle.promises.specs.Emitted.{error-fits, emitted-report}
 use Rattle.declarations.proofs.reports.report_error.Statement.{statement}
 use Rattle.declarations.proofs.reports.report_error.Tie as tie
 
@@ -8,6 +8,6 @@ pub report-error-spec : {M : Type 1} → statement M
 report-error-spec =
     tie.close (tie.spec
     (λ c κs. search needs)  -- error-requires
-    (λ c κs. search (needs, fits-error))  -- report-requires
+    (λ c κs. search (needs, error-fits))  -- report-requires
     (λ c. search needs)  -- same-length
-    (λ c. reported (c .before .before .before .error .ensures) (c .before .before .report .ensures)))  -- returns
+    (λ c. emitted-report (c .before .before .before .error .ensures) (c .before .before .report .ensures)))  -- returns

@@ -1,6 +1,6 @@
 -- `declarations::reports::report_with_note` meets its contract. Assumes nothing.
 use borrow.Author.Needs.{needs}
-use Rattle.declarations.proofs.Sayings.{fits-noted, reported}
+use Rattle.promises.specs.Emitted.{noted-fits, emitted-report}
 use Rattle.declarations.proofs.reports.report_with_note.Statement.{statement}
 use Rattle.declarations.proofs.reports.report_with_note.Tie as tie
 
@@ -8,6 +8,6 @@ pub report-with-note-spec : {M : Type 1} → statement M
 report-with-note-spec =
     tie.close (tie.spec
     (λ c κs. search needs)  -- error-with-note-requires
-    (λ c κs. search (needs, fits-noted))  -- report-requires
+    (λ c κs. search (needs, noted-fits))  -- report-requires
     (λ c. search needs)  -- same-length
-    (λ c. reported (c .before .before .before .error-with-note .ensures) (c .before .before .report .ensures)))  -- returns
+    (λ c. emitted-report (c .before .before .before .error-with-note .ensures) (c .before .before .report .ensures)))  -- returns

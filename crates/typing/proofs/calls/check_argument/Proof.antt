@@ -1,5 +1,5 @@
 -- `typing::calls::check_argument` meets its contract. Assumes nothing.
-use Rattle.typing.proofs.Finds.{error-fits}
+use Rattle.promises.specs.Emitted.{error-fits}
 use Rattle.typing.proofs.Callees.{argument-free, argument-untyped, argument-right, argument-wrong}
 use borrow.Author.Needs.{needs}
 use Rattle.typing.proofs.calls.check_argument.Statement.{statement}

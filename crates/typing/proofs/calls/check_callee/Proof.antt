@@ -1,12 +1,12 @@
 -- `typing::calls::check_callee` meets its contract. Assumes nothing.
-use Rattle.typing.proofs.Finds.{error-fits, error-said}
+use Rattle.promises.specs.Emitted.{error-fits, emitted-report}
 use Rattle.typing.proofs.Callees.{callee-missing, callee-there}
 use borrow.Author.Needs.{needs}
 use Rattle.typing.proofs.calls.check_callee.Statement.{statement}
 use Rattle.typing.proofs.calls.check_callee.Tie as tie
 
 returns : tie.Need-returns
-returns c = callee-missing _ _ _ _ (c .before .before .before .before .before .before .before .function .ensures) (c .before .before .before .before .before .enum-told .given .1) (error-said (c .before .before .before .error .ensures) (c .before .before .report .ensures))
+returns c = callee-missing _ _ _ _ (c .before .before .before .before .before .before .before .function .ensures) (c .before .before .before .before .before .enum-told .given .1) (emitted-report (c .before .before .before .error .ensures) (c .before .before .report .ensures))
 
 returns-2 : tie.Need-returns-2
 returns-2 c = callee-there _ _ _ _ (c .before .before .before .before .before .before .before .function .ensures) (c .before .before .before .before .before .sig .given .1) (c .before .before .count-arguments .ensures)

@@ -1,5 +1,5 @@
 -- `typing::calls::count_arguments` meets its contract. Assumes nothing.
-use Rattle.typing.proofs.Finds.{noted-fits}
+use Rattle.promises.specs.Emitted.{noted-fits}
 use Rattle.typing.proofs.Callees.{count-right, count-wrong}
 use borrow.Author.Needs.{needs}
 use Rattle.typing.proofs.calls.count_arguments.Statement.{statement}

@@ -1,5 +1,6 @@
 -- `typing::cases::refuse` meets its contract. Assumes nothing.
-use Rattle.typing.proofs.Finds.{error-fits, found-error}
+use Rattle.promises.specs.Emitted.{error-fits}
+use Rattle.typing.proofs.Finds.{found-error}
 use borrow.Author.Needs.{needs}
 use Rattle.typing.proofs.cases.refuse.Statement.{statement}
 use Rattle.typing.proofs.cases.refuse.Tie as tie
