@@ -13,12 +13,8 @@ use Rattle.text.specs.Text.{concat, part, same}
 use Rattle.text.proofs.Table.{every, at}
 use Rattle.text.proofs.Same.{same-eq}
 use Rattle.text.proofs.Clamp.{split}
-use Rattle.lines.specs.Plans.{phrases, allWords, phrase, wordAt}
-
--- where each of some texts starts, one after the other from n on, and where the last one ends
-abbrev starts : ℕ → List (List ℕ) → List ℕ
-starts n [] = n ∷ []
-starts n (x ∷ xs) = n ∷ starts (n + length x) xs
+use Rattle.lines.specs.Plans.{phrases, allWords, starts, phrasePlaces, Lent, phrase}
+use Rattle.lines.specs.Stored.{Shown}
 
 starts-first : (n : ℕ) (xs : List (List ℕ)) → getD (starts n xs) 0 0 ≡ n
 starts-first n [] = refl
@@ -33,9 +29,6 @@ between [] pre k h = absurd (omega arith)
 between (x ∷ xs) pre zero h =
     rw (starts-first (length pre + length x) xs, over-first (length pre) (length x), drop-append-seam pre (x ++ concat xs)) (take-append-seam x (concat xs))
 between (x ∷ xs) pre (suc k) h = rw (length-append pre x, append-assoc pre x (concat xs)) at (between xs (pre ++ x) k (omega arith))
-
-unfoldable pub phrasePlaces : List ℕ
-phrasePlaces = starts 0 phrases
 
 phrase-count : length phrases ≡ 112
 unfolding phrases
@@ -64,6 +57,12 @@ phrase-short n =
     (λ (h : 112 ≤ n). omega (arith, ap length (phrase-none n h)))
     (λ (h : n < 112). leb→le (length (getD phrases n [])) 110 (at isShort phrases [] all-short n (omega (arith, phrase-count))))
     (split 112 n)
+
+-- `phrase_of` reads the phrase
+pub phrase-read : {w q : List ℕ} (n : ℕ) {a e : ℕ} {r : List ℕ} → Lent w q → n < 112 → a ≡ getD q n 0 → e ≡ getD q (n + 1) 0 → r ≡ part a e w → Shown r (phrase n) 110
+phrase-read {w} n {r = r} t h f g i =
+    let s : r ≡ phrase n = i ∙ rw (f, g, t .starting) (phrase-part w n (t .words) h) in
+    record { shows = s; short = omega (arith, ap length s, phrase-short n) }
 
 true-of : (b : Bool) → T b → b ≡ true
 true-of true t = refl

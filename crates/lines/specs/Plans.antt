@@ -147,6 +147,19 @@ plans =
 unfoldable pub allWords : List ℕ
 allWords = concat phrases
 
+-- where each of some texts starts, one after the other from n on, and where the last one ends
+abbrev pub starts : ℕ → List (List ℕ) → List ℕ
+starts n [] = n ∷ []
+starts n (x ∷ xs) = n ∷ starts (n + length x) xs
+
+unfoldable pub phrasePlaces : List ℕ
+phrasePlaces = starts 0 phrases
+
+-- the tables that are lent: the wording, and where its phrases stand
+pub record Lent (wording places : List ℕ) : Type 0 where
+  pub words : wording ≡ allWords
+  pub starting : places ≡ phrasePlaces
+
 unfoldable pub phrase : ℕ → List ℕ
 phrase n = getD phrases n []
 

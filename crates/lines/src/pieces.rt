@@ -2,14 +2,14 @@
 use super::Plan;
 use super::tables;
 ghost use mathlib.Core.Path.{_≡_};
-ghost use Prim.Native.Nat.{ℕ, _≤_, _<_, _+_, _/_, _^_};
+ghost use Prim.Native.Nat.{_≤_, _<_, _+_, _/_, _^_};
 ghost use mathlib.Core.List.{_∷_, []};
-ghost use lib.ListN.{length, getD, set};
+ghost use lib.ListN.{length, set};
 ghost use Rattle.text.specs.Decimal.{decimal};
 ghost use Rattle.sema.specs.Messages.{nameAt};
 ghost use Rattle.tree.specs.Decode.{textsOf};
 ghost use Rattle.lines.specs.Stored.{Wrote, Said, Shown};
-ghost use Rattle.lines.specs.Plans.{allWords, aName, digit, phrase, rowAt, noPart, pieceText, pieceRoom, partText, partRoom, rowRoom, planText, Readable, Named};
+ghost use Rattle.lines.specs.Plans.{Lent, allWords, aName, digit, phrase, rowAt, pieceText, pieceRoom, partText, partRoom, rowRoom, planText, Readable, Named};
 
 fn wide(x: u8) -> usize
     ensures { λ r. ⌜ (r ≡ x) × (r < 256) ⌝ }
@@ -17,16 +17,22 @@ fn wide(x: u8) -> usize
     x as usize
 }
 
+// A place of the table, as an index.
+fn place(x: u16) -> usize
+    ensures { λ r. ⌜ r ≡ x ⌝ }
+{
+    x as usize
+}
+
 // The phrase with a number, as a part of the wording; none where there is none.
-fn phrase_of(wording: &[u8], n: usize) -> &[u8]
-    requires { ⌜ now wording ≡ allWords ⌝ }
+fn phrase_of<'a>(wording: &'a [u8], places: &[u16; 113], n: usize) -> &'a [u8]
+    requires { ⌜ Lent (now wording) (now places) ⌝ }
     ensures { λ r. ⌜ Shown (now r) (phrase n) 110 ⌝ }
 {
     if 112 <= n {
         return &wording[..0];
     }
-    let places = tables::PHRASE_AT;
-    text::part(wording, places[n], places[n + 1])
+    text::part(wording, place(places[n]), place(places[n + 1]))
 }
 
 // The text with a number, as a part of the tree.
@@ -40,8 +46,15 @@ fn name_of<'a>(tree: &'a [u8], index: &[u64], x: usize) -> &'a [u8]
 }
 
 // The next piece of a text: a part of the tree or of the wording. 200 is the name, 201 and 202 are the words.
-fn piece<'a>(tree: &'a [u8], index: &[u64], wording: &'a [u8], p: Plan, part: usize) -> &'a [u8]
-    requires { ⌜ (now wording ≡ allWords) × (part ≡ aName → Readable (now tree) (now index) (p .name)) ⌝ }
+fn piece<'a>(
+    tree: &'a [u8],
+    index: &[u64],
+    wording: &'a [u8],
+    places: &[u16; 113],
+    p: Plan,
+    part: usize,
+) -> &'a [u8]
+    requires { ⌜ Lent (now wording) (now places) × (part ≡ aName → Readable (now tree) (now index) (p .name)) ⌝ }
     ensures { λ r. ⌜ Shown (now r) (pieceText (textsOf (now (tree .entry))) p part) (pieceRoom part) ⌝ }
 {
     let name = p.name;
@@ -51,12 +64,12 @@ fn piece<'a>(tree: &'a [u8], index: &[u64], wording: &'a [u8], p: Plan, part: us
         return name_of(tree, index, name);
     }
     if part == 201 {
-        return phrase_of(wording, word);
+        return phrase_of(wording, places, word);
     }
     if part == 202 {
-        return phrase_of(wording, other);
+        return phrase_of(wording, places, other);
     }
-    phrase_of(wording, part)
+    phrase_of(wording, places, part)
 }
 
 // n without its last d digits.
@@ -138,10 +151,11 @@ fn write_part<'a>(
     tree: &'a [u8],
     index: &[u64],
     wording: &'a [u8],
+    places: &[u16; 113],
     p: Plan,
     part: usize,
 ) -> usize
-    requires { ⌜ (now wording ≡ allWords) × (n < 4294967296) × (part ≡ aName → Readable (now tree) (now index) (p .name)) ⌝ }
+    requires { ⌜ Lent (now wording) (now places) × (n < 4294967296) × (part ≡ aName → Readable (now tree) (now index) (p .name)) ⌝ }
     ensures { λ r. ⌜ Said (now (out .entry)) n (now (out .exit)) r (partText (textsOf (now (tree .entry))) p part) (partRoom part) ⌝ }
 {
     if part == 203 {
@@ -153,48 +167,34 @@ fn write_part<'a>(
     if part == 205 {
         return number(out, n, wording, p.third);
     }
-    let s = piece(tree, index, wording, p, part);
+    let s = piece(tree, index, wording, places, p, part);
     copy(out, n, s)
 }
 
-// The parts of a kind of plan; 255 is none.
-fn row_of(kind: usize) -> [u8; 9]
-    ensures { λ r. ⌜ ((k : ℕ) → k < 9 → getD r k 0 ≡ getD (rowAt kind) k noPart) ⌝ }
-{
-    if kind < 62 {
-        return tables::PLANS[kind];
-    }
-    [255; 9]
-}
-
-// Stores what a plan says, part by part.
-fn write_plan<'a>(
+// Stores what a plan says, part by part up to the first that is none.
+pub fn write<'a>(
     out: &mut [u8],
     n: usize,
     tree: &'a [u8],
     index: &[u64],
     wording: &'a [u8],
+    places: &[u16; 113],
     p: Plan,
 ) -> usize
-    requires { ⌜ (now wording ≡ allWords) × (n < 1073741824) × Named (now tree) (now index) p ⌝ }
+    requires { ⌜ Lent (now wording) (now places) × (n < 1073741824) × Named (now tree) (now index) p ⌝ }
     ensures { λ r. ⌜ Said (now (out .entry)) n (now (out .exit)) r (planText (textsOf (now (tree .entry))) p) (rowRoom (rowAt (p .kind))) ⌝ }
 {
     let kind = p.kind;
-    let row = row_of(kind);
+    let row = tables::row_of(kind);
     let mut at = n;
     let mut k = 0;
     while k < 9 {
         let part = wide(row[k]);
-        at = write_part(out, at, tree, index, wording, p, part);
+        if part == 255 {
+            return at;
+        }
+        at = write_part(out, at, tree, index, wording, places, p, part);
         k += 1;
     }
     at
-}
-
-// What a plan says, over the wording of the tables.
-pub fn write(out: &mut [u8], n: usize, tree: &[u8], index: &[u64], p: Plan) -> usize
-    requires { ⌜ (n < 1073741824) × Named (now tree) (now index) p ⌝ }
-    ensures { λ r. ⌜ Said (now (out .entry)) n (now (out .exit)) r (planText (textsOf (now (tree .entry))) p) (rowRoom (rowAt (p .kind))) ⌝ }
-{
-    write_plan(out, n, tree, index, &tables::WORDING, p)
 }

@@ -1,4 +1,8 @@
-// The wording of the listing, and where its phrases stand.
+// The wording of the listing, where its phrases stand, and the parts of each plan.
+ghost use mathlib.Core.Path.{_≡_};
+ghost use Prim.Native.Nat.{ℕ, _<_};
+ghost use lib.ListN.{getD};
+ghost use Rattle.lines.specs.Plans.{rowAt, noPart};
 
 // The phrases, one after the other: the digits, the words, and those of the messages.
 pub const WORDING: [u8; 1856] = *b"0123456789intuintfloatangleboolconst intconst uintconst float\
@@ -25,7 +29,7 @@ pub const WORDING: [u8; 1856] = *b"0123456789intuintfloatangleboolconst intconst
     measurement target declared herefunction defined here \nlist ";
 
 // Where each phrase starts, and where the last one ends.
-pub const PHRASE_AT: [usize; 113] = [
+pub const PHRASE_AT: [u16; 113] = [
     0, // 0
     1, // 1
     2, // 2
@@ -156,68 +160,73 @@ const THIRD: u8 = 205;
 
 const NONE: u8 = 255;
 
-// The plans, by kind: the parts of each, a phrase by its number. The kinds are those of specs/Kinds.antt.
-pub const PLANS: [[u8; 9]; 62] = [
-    [27, NAME, 28, NONE, NONE, NONE, NONE, NONE, NONE], // 0: alreadyDeclared
-    [27, NAME, 29, NONE, NONE, NONE, NONE, NONE, NONE], // 1: notDeclared
-    [30, WORD, 31, NAME, 32, OTHER, NONE, NONE, NONE], // 2: expectedKind
-    [33, NAME, 34, NONE, NONE, NONE, NONE, NONE, NONE], // 3: cannotIndexGateQubit
-    [35, FIRST, 36, NAME, 37, SECOND, 38, NONE, NONE], // 4: indexOutOfBounds
-    [39, NAME, 40, NONE, NONE, NONE, NONE, NONE, NONE], // 5: cannotIndex
-    [41, FIRST, 42, SECOND, 36, NAME, 37, THIRD, 38], // 6: sliceOutOfBounds
-    [43, NAME, 27, NONE, NONE, NONE, NONE, NONE, NONE], // 7: cannotSlice
-    [44, NAME, 45, FIRST, 46, NONE, NONE, NONE, NONE], // 8: usedIndex
-    [44, NAME, 47, NONE, NONE, NONE, NONE, NONE, NONE], // 9: used, whole
-    [44, NAME, 45, FIRST, 48, 47, NONE, NONE, NONE], // 10: used, index
-    [44, NAME, 45, FIRST, 42, SECOND, 48, 47, NONE], // 11: used, slice
-    [49, NAME, 50, NONE, NONE, NONE, NONE, NONE, NONE], // 12: constWithoutInit
-    [51, NAME, 52, NONE, NONE, NONE, NONE, NONE, NONE], // 13: inputWithInit
-    [53, WORD, 54, NAME, 55, OTHER, 56, NONE, NONE], // 14: cannotInitialize
-    [57, WORD, 58, OTHER, 54, NAME, 27, NONE, NONE], // 15: cannotAssign
-    [59, NONE, NONE, NONE, NONE, NONE, NONE, NONE, NONE], // 16: compoundNumeric
-    [60, NAME, 27, NONE, NONE, NONE, NONE, NONE, NONE], // 17: assignToConst
-    [27, NAME, 61, NONE, NONE, NONE, NONE, NONE, NONE], // 18: notAssignable
-    [62, NAME, 63, FIRST, 64, SECOND, NONE, NONE, NONE], // 19: gateParams
-    [62, NAME, 63, FIRST, 65, SECOND, NONE, NONE, NONE], // 20: gateQubits
-    [62, NAME, 63, FIRST, SECOND, 65, THIRD, NONE, NONE], // 21: gateQubits, in two parts
-    [62, NAME, 66, NONE, NONE, NONE, NONE, NONE, NONE], // 22: gateNotDefined
-    [67, NONE, NONE, NONE, NONE, NONE, NONE, NONE, NONE], // 23: paramsNumeric
-    [68, NONE, NONE, NONE, NONE, NONE, NONE, NONE, NONE], // 24: broadcasting
-    [62, NAME, 69, NONE, NONE, NONE, NONE, NONE, NONE], // 25: gateAlreadyDefined
-    [70, NAME, 69, NONE, NONE, NONE, NONE, NONE, NONE], // 26: functionAlreadyDefined
-    [70, NAME, 71, WORD, 72, OTHER, NONE, NONE, NONE], // 27: functionReturns
-    [73, FIRST, 74, SECOND, 75, NONE, NONE, NONE, NONE], // 28: measurementWidths
-    [76, NAME, 77, NONE, NONE, NONE, NONE, NONE, NONE], // 29: alreadyMeasured, whole
-    [76, NAME, 45, FIRST, 48, 77, NONE, NONE, NONE], // 30: alreadyMeasured, index
-    [76, NAME, 45, FIRST, 42, SECOND, 48, 77, NONE], // 31: alreadyMeasured, slice
-    [78, NONE, NONE, NONE, NONE, NONE, NONE, NONE, NONE], // 32: delayNumeric
-    [79, NONE, NONE, NONE, NONE, NONE, NONE, NONE, NONE], // 33: forVariable
-    [80, NONE, NONE, NONE, NONE, NONE, NONE, NONE, NONE], // 34: controlCount
-    [81, NONE, NONE, NONE, NONE, NONE, NONE, NONE, NONE], // 35: powerNumeric
-    [82, 83, WORD, 84, OTHER, NONE, NONE, NONE, NONE], // 36: mustHaveType, ifCondition
-    [85, 83, WORD, 84, OTHER, NONE, NONE, NONE, NONE], // 37: mustHaveType, whileCondition
-    [86, 83, WORD, 84, OTHER, NONE, NONE, NONE, NONE], // 38: mustHaveType, rangeBound
-    [87, 83, WORD, 84, OTHER, NONE, NONE, NONE, NONE], // 39: mustHaveType, rangeStep
-    [88, 83, WORD, 84, OTHER, NONE, NONE, NONE, NONE], // 40: mustHaveType, controlArgument
-    [27, NAME, 89, NONE, NONE, NONE, NONE, NONE, NONE], // 41: notClassical
-    [90, NAME, 27, NONE, NONE, NONE, NONE, NONE, NONE], // 42: cannotIndexBit
-    [27, NAME, 91, NONE, NONE, NONE, NONE, NONE, NONE], // 43: notIndexable
-    [70, NAME, 66, NONE, NONE, NONE, NONE, NONE, NONE], // 44: functionNotDefined
-    [70, NAME, 63, FIRST, 92, SECOND, NONE, NONE, NONE], // 45: functionArguments
-    [93, FIRST, 94, NAME, 95, WORD, 84, OTHER, NONE], // 46: argumentType
-    [96, NONE, NONE, NONE, NONE, NONE, NONE, NONE, NONE], // 47: negationNumeric
-    [97, NONE, NONE, NONE, NONE, NONE, NONE, NONE, NONE], // 48: arithmeticNumeric
-    [98, NONE, NONE, NONE, NONE, NONE, NONE, NONE, NONE], // 49: comparisonTypes
-    [27, NAME, 99, NONE, NONE, NONE, NONE, NONE, NONE], // 50: firstDeclared
-    [27, NAME, 100, WORD, 101, NONE, NONE, NONE, NONE], // 51: declaredAs
-    [27, NAME, 102, FIRST, 101, NONE, NONE, NONE, NONE], // 52: declaredWithSize
-    [27, NAME, 103, NONE, NONE, NONE, NONE, NONE, NONE], // 53: declaredWithoutSize
-    [104, NONE, NONE, NONE, NONE, NONE, NONE, NONE, NONE], // 54: measuredHere
-    [27, NAME, 105, NONE, NONE, NONE, NONE, NONE, NONE], // 55: definedHere
-    [106, NONE, NONE, NONE, NONE, NONE, NONE, NONE, NONE], // 56: firstDefined
-    [107, NONE, NONE, NONE, NONE, NONE, NONE, NONE, NONE], // 57: targetDeclared
-    [108, NONE, NONE, NONE, NONE, NONE, NONE, NONE, NONE], // 58: functionDefined
-    [WORD, FIRST, 109, SECOND, 109, NONE, NONE, NONE, NONE], // 59: the head of a line
-    [110, NONE, NONE, NONE, NONE, NONE, NONE, NONE, NONE], // 60: the end of a line
-    [111, FIRST, 109, SECOND, 110, NONE, NONE, NONE, NONE], // 61: the first line
-];
+// The parts of a kind of plan, a phrase by its number. The kinds are those of specs/Kinds.antt.
+pub fn row_of(kind: usize) -> [u8; 9]
+    ensures { λ r. ⌜ ((k : ℕ) → k < 9 → getD r k 0 ≡ getD (rowAt kind) k noPart) ⌝ }
+{
+    match kind {
+        0 => [27, NAME, 28, NONE, NONE, NONE, NONE, NONE, NONE], // alreadyDeclared
+        1 => [27, NAME, 29, NONE, NONE, NONE, NONE, NONE, NONE], // notDeclared
+        2 => [30, WORD, 31, NAME, 32, OTHER, NONE, NONE, NONE], // expectedKind
+        3 => [33, NAME, 34, NONE, NONE, NONE, NONE, NONE, NONE], // cannotIndexGateQubit
+        4 => [35, FIRST, 36, NAME, 37, SECOND, 38, NONE, NONE], // indexOutOfBounds
+        5 => [39, NAME, 40, NONE, NONE, NONE, NONE, NONE, NONE], // cannotIndex
+        6 => [41, FIRST, 42, SECOND, 36, NAME, 37, THIRD, 38], // sliceOutOfBounds
+        7 => [43, NAME, 27, NONE, NONE, NONE, NONE, NONE, NONE], // cannotSlice
+        8 => [44, NAME, 45, FIRST, 46, NONE, NONE, NONE, NONE], // usedIndex
+        9 => [44, NAME, 47, NONE, NONE, NONE, NONE, NONE, NONE], // used, whole
+        10 => [44, NAME, 45, FIRST, 48, 47, NONE, NONE, NONE], // used, index
+        11 => [44, NAME, 45, FIRST, 42, SECOND, 48, 47, NONE], // used, slice
+        12 => [49, NAME, 50, NONE, NONE, NONE, NONE, NONE, NONE], // constWithoutInit
+        13 => [51, NAME, 52, NONE, NONE, NONE, NONE, NONE, NONE], // inputWithInit
+        14 => [53, WORD, 54, NAME, 55, OTHER, 56, NONE, NONE], // cannotInitialize
+        15 => [57, WORD, 58, OTHER, 54, NAME, 27, NONE, NONE], // cannotAssign
+        16 => [59, NONE, NONE, NONE, NONE, NONE, NONE, NONE, NONE], // compoundNumeric
+        17 => [60, NAME, 27, NONE, NONE, NONE, NONE, NONE, NONE], // assignToConst
+        18 => [27, NAME, 61, NONE, NONE, NONE, NONE, NONE, NONE], // notAssignable
+        19 => [62, NAME, 63, FIRST, 64, SECOND, NONE, NONE, NONE], // gateParams
+        20 => [62, NAME, 63, FIRST, 65, SECOND, NONE, NONE, NONE], // gateQubits
+        21 => [62, NAME, 63, FIRST, SECOND, 65, THIRD, NONE, NONE], // gateQubits, in two parts
+        22 => [62, NAME, 66, NONE, NONE, NONE, NONE, NONE, NONE], // gateNotDefined
+        23 => [67, NONE, NONE, NONE, NONE, NONE, NONE, NONE, NONE], // paramsNumeric
+        24 => [68, NONE, NONE, NONE, NONE, NONE, NONE, NONE, NONE], // broadcasting
+        25 => [62, NAME, 69, NONE, NONE, NONE, NONE, NONE, NONE], // gateAlreadyDefined
+        26 => [70, NAME, 69, NONE, NONE, NONE, NONE, NONE, NONE], // functionAlreadyDefined
+        27 => [70, NAME, 71, WORD, 72, OTHER, NONE, NONE, NONE], // functionReturns
+        28 => [73, FIRST, 74, SECOND, 75, NONE, NONE, NONE, NONE], // measurementWidths
+        29 => [76, NAME, 77, NONE, NONE, NONE, NONE, NONE, NONE], // alreadyMeasured, whole
+        30 => [76, NAME, 45, FIRST, 48, 77, NONE, NONE, NONE], // alreadyMeasured, index
+        31 => [76, NAME, 45, FIRST, 42, SECOND, 48, 77, NONE], // alreadyMeasured, slice
+        32 => [78, NONE, NONE, NONE, NONE, NONE, NONE, NONE, NONE], // delayNumeric
+        33 => [79, NONE, NONE, NONE, NONE, NONE, NONE, NONE, NONE], // forVariable
+        34 => [80, NONE, NONE, NONE, NONE, NONE, NONE, NONE, NONE], // controlCount
+        35 => [81, NONE, NONE, NONE, NONE, NONE, NONE, NONE, NONE], // powerNumeric
+        36 => [82, 83, WORD, 84, OTHER, NONE, NONE, NONE, NONE], // mustHaveType, ifCondition
+        37 => [85, 83, WORD, 84, OTHER, NONE, NONE, NONE, NONE], // mustHaveType, whileCondition
+        38 => [86, 83, WORD, 84, OTHER, NONE, NONE, NONE, NONE], // mustHaveType, rangeBound
+        39 => [87, 83, WORD, 84, OTHER, NONE, NONE, NONE, NONE], // mustHaveType, rangeStep
+        40 => [88, 83, WORD, 84, OTHER, NONE, NONE, NONE, NONE], // mustHaveType, controlArgument
+        41 => [27, NAME, 89, NONE, NONE, NONE, NONE, NONE, NONE], // notClassical
+        42 => [90, NAME, 27, NONE, NONE, NONE, NONE, NONE, NONE], // cannotIndexBit
+        43 => [27, NAME, 91, NONE, NONE, NONE, NONE, NONE, NONE], // notIndexable
+        44 => [70, NAME, 66, NONE, NONE, NONE, NONE, NONE, NONE], // functionNotDefined
+        45 => [70, NAME, 63, FIRST, 92, SECOND, NONE, NONE, NONE], // functionArguments
+        46 => [93, FIRST, 94, NAME, 95, WORD, 84, OTHER, NONE], // argumentType
+        47 => [96, NONE, NONE, NONE, NONE, NONE, NONE, NONE, NONE], // negationNumeric
+        48 => [97, NONE, NONE, NONE, NONE, NONE, NONE, NONE, NONE], // arithmeticNumeric
+        49 => [98, NONE, NONE, NONE, NONE, NONE, NONE, NONE, NONE], // comparisonTypes
+        50 => [27, NAME, 99, NONE, NONE, NONE, NONE, NONE, NONE], // firstDeclared
+        51 => [27, NAME, 100, WORD, 101, NONE, NONE, NONE, NONE], // declaredAs
+        52 => [27, NAME, 102, FIRST, 101, NONE, NONE, NONE, NONE], // declaredWithSize
+        53 => [27, NAME, 103, NONE, NONE, NONE, NONE, NONE, NONE], // declaredWithoutSize
+        54 => [104, NONE, NONE, NONE, NONE, NONE, NONE, NONE, NONE], // measuredHere
+        55 => [27, NAME, 105, NONE, NONE, NONE, NONE, NONE, NONE], // definedHere
+        56 => [106, NONE, NONE, NONE, NONE, NONE, NONE, NONE, NONE], // firstDefined
+        57 => [107, NONE, NONE, NONE, NONE, NONE, NONE, NONE, NONE], // targetDeclared
+        58 => [108, NONE, NONE, NONE, NONE, NONE, NONE, NONE, NONE], // functionDefined
+        59 => [WORD, FIRST, 109, SECOND, 109, NONE, NONE, NONE, NONE], // the head of a line
+        60 => [110, NONE, NONE, NONE, NONE, NONE, NONE, NONE, NONE], // the end of a line
+        61 => [111, FIRST, 109, SECOND, 110, NONE, NONE, NONE, NONE], // the first line
+        _ => [NONE; 9],
+    }
+}
