@@ -32,15 +32,15 @@ all-rows : T (every isRow 0 plans)
 unfolding isRow plans
 all-rows = tt
 
-row-count : length plans ≡ 62
+row-count : length plans ≡ 59
 unfolding plans
 row-count = refl
 
-row-length : (kind : ℕ) → kind < 62 → length (rowAt kind) ≡ 9
+row-length : (kind : ℕ) → kind < 59 → length (rowAt kind) ≡ 9
 unfolding isRow rowAt
 row-length kind h = eqb→eq (length (getD plans kind [])) 9 (at isRow plans [] all-rows kind (omega (arith, row-count)))
 
-row-past : (kind : ℕ) → 62 ≤ kind → rowAt kind ≡ []
+row-past : (kind : ℕ) → 59 ≤ kind → rowAt kind ≡ []
 unfolding rowAt
 row-past kind h = List·getD-eq-default plans [] (omega (arith, row-count))
 
@@ -50,10 +50,10 @@ any-default (x ∷ l) zero a b h = refl
 any-default (x ∷ l) (suc k) a b h = any-default l k a b (omega arith)
 
 -- an arm of `row_of` has the row of its kind
-pub row-is : {kind : ℕ} (i : ℕ) {r : List ℕ} → T (ltb i 62) → kind ≡ i → r ≡ getD plans i [] → (k : ℕ) → k < 9 → getD r k 0 ≡ getD (rowAt kind) k noPart
+pub row-is : {kind : ℕ} (i : ℕ) {r : List ℕ} → T (ltb i 59) → kind ≡ i → r ≡ getD plans i [] → (k : ℕ) → k < 9 → getD r k 0 ≡ getD (rowAt kind) k noPart
 unfolding rowAt
 row-is i t e f k g =
-    rw (e, f) (any-default (getD plans i []) k 0 noPart (omega (arith, row-length i (ltb→lt i 62 t))))
+    rw (e, f) (any-default (getD plans i []) k 0 noPart (omega (arith, row-length i (ltb→lt i 59 t))))
 
 -- a kind that is none of the first n, as a match over them says it
 abbrev pub Missed : ℕ → ℕ → Type 0
@@ -64,7 +64,7 @@ pub missed : (n kind : ℕ) → Missed n kind → n ≤ kind
 missed zero kind u = omega arith
 missed (suc n) kind u = let l = missed n kind (u .0) in let d = u .1 in omega arith
 
-pub row-none : (kind k : ℕ) → 62 ≤ kind → noPart ≡ getD (rowAt kind) k noPart
+pub row-none : (kind k : ℕ) → 59 ≤ kind → noPart ≡ getD (rowAt kind) k noPart
 row-none kind k h = rw (row-past kind h)
 
 pub nine-none : (k : ℕ) → k < 9 → getD (replicate 9 noPart) k 0 ≡ noPart
@@ -169,9 +169,9 @@ row-stops : (kind : ℕ) → T (stops (rowAt kind))
 unfolding isStopped rowAt stops
 row-stops kind =
     ⊎-elim
-    (λ (h : 62 ≤ kind). rw (List·getD-eq-default plans [] {n = kind} (omega (arith, row-count))) tt)
-    (λ (h : kind < 62). at isStopped plans [] all-stopped kind (omega (arith, row-count)))
-    (split 62 kind)
+    (λ (h : 59 ≤ kind). rw (List·getD-eq-default plans [] {n = kind} (omega (arith, row-count))) tt)
+    (λ (h : kind < 59). at isStopped plans [] all-stopped kind (omega (arith, row-count)))
+    (split 59 kind)
 
 module _ (t : List Text) (p : Plan) where
   blank-says : (cs : List ℕ) → T (blank cs) → joined t p cs ≡ []
@@ -211,16 +211,16 @@ pub row-room : (kind : ℕ) → rowRoom (rowAt kind) ≤ 336
 unfolding isTight rowAt rowRoom
 row-room kind =
     ⊎-elim
-    (λ (h : 62 ≤ kind). rw (List·getD-eq-default plans [] {n = kind} (omega (arith, row-count))) (omega arith))
-    (λ (h : kind < 62). leb→le (rowRoom (getD plans kind [])) 336 (at isTight plans [] all-tight kind (omega (arith, row-count))))
-    (split 62 kind)
+    (λ (h : 59 ≤ kind). rw (List·getD-eq-default plans [] {n = kind} (omega (arith, row-count))) (omega arith))
+    (λ (h : kind < 59). leb→le (rowRoom (getD plans kind [])) 336 (at isTight plans [] all-tight kind (omega (arith, row-count))))
+    (split 59 kind)
 
 row-end : (kind : ℕ) → drop 9 (rowAt kind) ≡ []
 row-end kind =
     ⊎-elim
-    (λ (h : 62 ≤ kind). rw (row-past kind h))
-    (λ (h : kind < 62). drop-of-length-le (rowAt kind) {i = 9} (omega (arith, row-length kind h)))
-    (split 62 kind)
+    (λ (h : 59 ≤ kind). rw (row-past kind h))
+    (λ (h : kind < 59). drop-of-length-le (rowAt kind) {i = 9} (omega (arith, row-length kind h)))
+    (split 59 kind)
 
 -- a part that is the name, among the first nine
 named-at : (row : List ℕ) (k : ℕ) → getD row k noPart ≡ aName → T (hasName row)

@@ -158,43 +158,34 @@ struct Plan {
     other: usize,
 }
 
-// A line: the letter, the span, what the plan says. 59 is the plan of its head, 60 of its end.
+// A line: the letter, the span, what the plan says.
 fn line<'a>(
     out: &mut [u8],
     n: usize,
     tree: &'a [u8],
     index: &[u64],
     wording: &'a [u8],
-    places: &[u16; 113],
-    letter: usize,
+    places: &[u16; 97],
+    letter: u8,
     span: Span,
     p: Plan,
 ) -> usize
     requires { ⌜ (n < 1048576) × Lent (now wording) (now places) × TextsAt (now tree) (now index) × Named (now tree) (now index) p ⌝ }
     ensures { λ r. ⌜ Said (now (out .entry)) n (now (out .exit)) r (lineText (textsOf (now (tree .entry))) letter span p) 512 ⌝ }
 {
-    let head = Plan {
-        kind: 59,
-        name: 0,
-        first: span.start as u64,
-        second: span.end as u64,
-        third: 0,
-        word: letter,
-        other: 0,
-    };
-    let a = pieces::write(out, n, tree, index, wording, places, head);
+    let a = pieces::head(out, n, letter, span);
     let b = pieces::write(out, a, tree, index, wording, places, p);
-    pieces::write(out, b, tree, index, wording, places, plans::plain(60))
+    pieces::copy(out, b, b"\n")
 }
 
-// The note's line, where there is a note; 26 is its letter.
+// The note's line, where there is a note.
 fn note_line<'a>(
     out: &mut [u8],
     n: usize,
     tree: &'a [u8],
     index: &[u64],
     wording: &'a [u8],
-    places: &[u16; 113],
+    places: &[u16; 97],
     secondary: Secondary,
 ) -> usize
     requires { ⌜ (n < 1048576) × Lent (now wording) (now places) × TextsAt (now tree) (now index) × NoteBelow (length (textsOf (now tree))) secondary ⌝ }
@@ -210,7 +201,7 @@ fn note_line<'a>(
         index,
         wording,
         places,
-        26,
+        b'N',
         span,
         plans::note_plan(note),
     )
@@ -223,7 +214,7 @@ fn message_line<'a>(
     tree: &'a [u8],
     index: &[u64],
     wording: &'a [u8],
-    places: &[u16; 113],
+    places: &[u16; 97],
     severity: Severity,
     span: Span,
     message: Message,
@@ -238,7 +229,7 @@ fn message_line<'a>(
         index,
         wording,
         places,
-        plans::letter_word(severity),
+        plans::letter_of(severity),
         span,
         plans::message_plan(message),
     )
@@ -295,18 +286,13 @@ pub fn report(out: &mut [u8], sink: Sink, tree: &[u8], index: &[u64], d: Diagnos
     counted(sink, severity, b)
 }
 
-// The listing's first line, from place 0 on: the plan 61. The answer is its length.
+// The listing's first line, from place 0 on. The answer is its length.
 pub fn first_line(out: &mut [u8], errors: usize, warnings: usize) -> usize
     ensures { λ r. ⌜ Wrote (now (out .entry)) 0 (now (out .exit)) r (ended (spaced (text "list") (decimal errors ∷ decimal warnings ∷ []) ∷ [])) ⌝ }
 {
-    let none = [0u64; 1];
-    pieces::write(
-        out,
-        0,
-        b"",
-        &none,
-        &tables::WORDING,
-        &tables::PHRASE_AT,
-        plans::numbered(61, 0, errors as u64, warnings as u64, 0),
-    )
+    let a = pieces::copy(out, 0, b"list ");
+    let b = pieces::number(out, a, errors as u64);
+    let c = pieces::copy(out, b, b" ");
+    let d = pieces::number(out, c, warnings as u64);
+    pieces::copy(out, d, b"\n")
 }

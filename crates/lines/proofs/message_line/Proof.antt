@@ -12,12 +12,12 @@ line-requires c κs =
 returns : tie.Need-returns
 returns c =
     let a = c .before .before .before .before .before .before .before .before .before .before .args in
-    message-said _ (a .severity) (a .span) (a .message) (c .before .before .before .before .letter-word .ensures) (c .before .before .before .message-plan .ensures) (c .before .before .line .ensures)
+    message-said _ (a .severity) (a .span) (a .message) (c .before .before .before .before .letter-of .ensures) (c .before .before .before .message-plan .ensures) (c .before .before .line .ensures)
 
 pub message-line-spec : {M : Type 1} → statement M
 message-line-spec =
     tie.close (tie.spec
-    (λ c κs. search needs)  -- letter-word-requires
+    (λ c κs. search needs)  -- letter-of-requires
     (λ c κs. search needs)  -- message-plan-requires
     line-requires
     (λ c. search needs)  -- same-length

@@ -68,7 +68,4 @@ row-of-spec =
     (λ c. row-is 56 tt (c .match .keys57) refl)  -- returns-57
     (λ c. row-is 57 tt (c .match .keys58) refl)  -- returns-58
     (λ c. row-is 58 tt (c .match .keys59) refl)  -- returns-59
-    (λ c. row-is 59 tt (c .match .keys60) refl)  -- returns-60
-    (λ c. row-is 60 tt (c .match .keys61) refl)  -- returns-61
-    (λ c. row-is 61 tt (c .match .keys62) refl)  -- returns-62
-    (λ c. λ k h. nine-none k h ∙ row-none (c .before .args .kind) k (missed 62 _ (c .match .rest))))  -- returns-63
+    (λ c. λ k h. nine-none k h ∙ row-none (c .before .args .kind) k (missed 59 _ (c .match .rest))))  -- returns-60
