@@ -1,6 +1,6 @@
 -- Lines, and a diagnostic of one or two of them. Assumes nothing.
 use Prim.Native.Nat.{ℕ, suc, _+_, _*_, _<_, _≤_}
-use mathlib.Core.Path.{_≡_, refl, sym, ap, _∙_}
+use mathlib.Core.Path.{_≡_, refl, sym, ap, subst, _∙_}
 use mathlib.Core.List.{List, [], _∷_, _++_, append-assoc, append-nil}
 use mathlib.Core.Option.{Option, none, some}
 use native.Mathlib.Omega.{arith}
@@ -28,59 +28,35 @@ use Rattle.lines.specs.declared.Plan.{Plan}
 use Rattle.lines.specs.Stored.{Wrote, Said}
 use Rattle.lines.specs.EmitLaws.{ended-append, one-within, one-past}
 use Rattle.lines.specs.Values.{severityOf, messageOf, secondaryOf, diagnosticOf, nameIn, nameInNote, Below, NoteBelow, Fits, countedOf, Reported}
-use Rattle.lines.specs.Plans.{phrases, plans, phrase, wordAt, rowAt, rowRoom, partRoom, pieceRoom, pieceText, partText, joined, planText, hasName, Readable, Named, headPlan, endPlan, firstPlan, lineText}
-use Rattle.lines.specs.Kinds.{plain, letterWord, noteWord, planOf, notePlan}
+use Rattle.lines.specs.Plans.{rowAt, rowRoom, planText, hasName, Readable, Named, headText, lineText}
+use Rattle.lines.specs.Kinds.{letterByte, noteByte, planOf, notePlan}
 use Rattle.lines.proofs.Parts.{row-room}
 use Rattle.lines.proofs.Sink.{wrote-then}
 use Rattle.lines.proofs.Messages.{Says, message-says, note-says}
 
--- the plans of a line's ends have no name, and are short
-pub head-nameless : {A : Type 0} → T (hasName (rowAt 59)) → A
-unfolding hasName rowAt plans
-head-nameless u = absurd u
-
-pub end-nameless : {tree index : List ℕ} {p : Plan} → p ≡ plain 60 → Named tree index p
-unfolding hasName rowAt plans
-end-nameless e = rw e (λ u. absurd u)
-
-pub first-nameless : {tree index : List ℕ} {p : Plan} {a b : ℕ} → p ≡ firstPlan a b → Named tree index p
-unfolding hasName rowAt plans
-first-nameless e = rw e (λ u. absurd u)
-
-pub head-room : rowRoom (rowAt 59) ≡ 152
-unfolding rowRoom partRoom pieceRoom phrase rowAt plans phrases
-head-room = refl
-
-end-room : rowRoom (rowAt 60) ≡ 1
-unfolding rowRoom partRoom pieceRoom phrase rowAt plans phrases
-end-room = refl
-
 -- head, message and end make a line
-pub line-said : (t : List Text) (c : ℕ) (sp : Span) (p : Plan) {q : Plan} {o : List ℕ} {n : ℕ} {o₁ : List ℕ} {a : ℕ} {o₂ : List ℕ} {b : ℕ} {o₃ : List ℕ} {r : ℕ} → Said o n o₁ a (planText t (headPlan c sp)) (rowRoom (rowAt 59)) → Said o₁ a o₂ b (planText t p) (rowRoom (rowAt (p .kind))) → q ≡ plain 60 → Said o₂ b o₃ r (planText t q) (rowRoom (rowAt (q .kind))) → Said o n o₃ r (lineText t c sp p) 512
+pub line-said : (t : List Text) (c : ℕ) (sp : Span) (p : Plan) {o : List ℕ} {n : ℕ} {o₁ : List ℕ} {a : ℕ} {o₂ : List ℕ} {b : ℕ} {o₃ : List ℕ} {r : ℕ} → Said o n o₁ a (headText c sp) 24 → Said o₁ a o₂ b (planText t p) (rowRoom (rowAt (p .kind))) → Wrote o₂ b o₃ r (10 ∷ []) → Said o n o₃ r (lineText t c sp p) 512
 unfolding lineText
-line-said t c sp p {q} {o} {n} {o₁} {a} {o₂} {b} {o₃} {r} u v e w =
-    let w′ : Said o₂ b o₃ r (planText t endPlan) (rowRoom (rowAt 60)) = rw e at w in
+line-said t c sp p u v w =
     record {
-      wrote = wrote-then (u .wrote) (wrote-then (v .wrote) (w′ .wrote));
-      within = omega (arith, u .within, v .within, w′ .within, head-room, end-room, row-room (p .kind));
+      wrote = wrote-then (u .wrote) (wrote-then (v .wrote) w);
+      within = omega (arith, u .within, v .within, w .after, row-room (p .kind));
     }
 
-line-text : (t : List Text) (c : ℕ) (l : List ℕ) (sp : Span) (p : Plan) (xs : List ℕ) → wordAt c ≡ l ++ (32 ∷ []) → planText t p ≡ xs → lineText t c sp p ≡ ended (spanLine l sp xs ∷ [])
-unfolding lineText ended spanLine spaced planText joined partText pieceText phrase rowAt plans phrases
-line-text t c l sp p xs e f = rw (e, f) (simp append-assoc)
+span-text : (a b xs ys : List ℕ) → (a ++ (32 ∷ (b ++ (32 ∷ [])))) ++ (xs ++ ys) ≡ (a ++ (32 ∷ (b ++ (32 ∷ xs)))) ++ ys
+span-text a b xs ys =
+    append-assoc a (32 ∷ (b ++ (32 ∷ []))) (xs ++ ys)
+    ∙ ap (λ (l : List ℕ). a ++ (32 ∷ l)) (append-assoc b (32 ∷ []) (xs ++ ys) ∙ sym (append-assoc b (32 ∷ xs) ys))
+    ∙ sym (append-assoc a (32 ∷ (b ++ (32 ∷ xs))) ys)
 
-letter-text : (s : Severity) → wordAt (letterWord s) ≡ letter (severityOf s) ++ (32 ∷ [])
-unfolding wordAt phrase phrases letter
+line-text : (t : List Text) (c : ℕ) (l : List ℕ) (sp : Span) (p : Plan) (xs : List ℕ) → l ≡ c ∷ [] → planText t p ≡ xs → lineText t c sp p ≡ ended (spanLine l sp xs ∷ [])
+unfolding lineText headText ended spanLine spaced
+line-text t c l sp p xs e f = rw (e, f) (ap (λ (l : List ℕ). c ∷ 32 ∷ l) (span-text (decimal (sp .start)) (decimal (sp .end)) xs (10 ∷ [])))
+
+letter-text : (s : Severity) → letter (severityOf s) ≡ letterByte s ∷ []
+unfolding letter
 letter-text Severity.Error = refl
 letter-text Severity.Warning = refl
-
-note-letter : wordAt noteWord ≡ text "N" ++ (32 ∷ [])
-unfolding wordAt phrase phrases
-note-letter = refl
-
-first-text : (t : List Text) (a b : ℕ) → planText t (firstPlan a b) ≡ ended (spaced (text "list") (decimal a ∷ decimal b ∷ []) ∷ [])
-unfolding ended spaced planText joined partText pieceText phrase rowAt plans phrases
-first-text t a b = simp append-assoc
 
 -- a text number below the number of texts can be read
 readable : {tree index : List ℕ} (x : ℕ) → TextsAt tree index → x < length (textsOf tree) → Readable tree index x
@@ -98,14 +74,14 @@ module _ {o : List ℕ} {n : ℕ} {o′ : List ℕ} {r : ℕ} where
   said-as : {xs ys : List ℕ} {k : ℕ} → Said o n o′ r xs k → xs ≡ ys → Said o n o′ r ys k
   said-as s e = rw e at s
 
-  pub message-said : (t : List Text) (s : Severity) (sp : Span) (m : Message) {c : ℕ} {p : Plan} → c ≡ letterWord s → p ≡ planOf m → Said o n o′ r (lineText t c sp p) 512 → Said o n o′ r (ended (spanLine (letter (severityOf s)) sp (messageText t (messageOf m)) ∷ [])) 512
+  pub message-said : (t : List Text) (s : Severity) (sp : Span) (m : Message) {c : ℕ} {p : Plan} → c ≡ letterByte s → p ≡ planOf m → Said o n o′ r (lineText t c sp p) 512 → Said o n o′ r (ended (spanLine (letter (severityOf s)) sp (messageText t (messageOf m)) ∷ [])) 512
   message-said t s sp m {c} {p} e f w =
-      said-as w (line-text t c (letter (severityOf s)) sp p (messageText t (messageOf m)) (ap wordAt e ∙ letter-text s) (ap (planText t) f ∙ message-says t m .says))
+      said-as w (line-text t c (letter (severityOf s)) sp p (messageText t (messageOf m)) (letter-text s ∙ ap (λ (x : ℕ). x ∷ []) (sym e)) (ap (planText t) f ∙ message-says t m .says))
 
-  pub note-said : (t : List Text) (sec : Secondary) (sp : Span) (m : Note) {p : Plan} → sec ≡ Secondary.Some m sp → p ≡ notePlan m → Said o n o′ r (lineText t noteWord sp p) 512 → Said o n o′ r (ended (noteLines t (secondaryOf sec))) 512
+  pub note-said : (t : List Text) (sec : Secondary) (sp : Span) (m : Note) {p : Plan} → sec ≡ Secondary.Some m sp → p ≡ notePlan m → Said o n o′ r (lineText t noteByte sp p) 512 → Said o n o′ r (ended (noteLines t (secondaryOf sec))) 512
   unfolding noteLines
   note-said t sec sp m {p} e f w =
-      rw e (said-as w (line-text t noteWord (text "N") sp p _ note-letter (ap (planText t) f ∙ note-says t m .says)))
+      rw e (said-as w (line-text t noteByte (text "N") sp p _ refl (ap (planText t) f ∙ note-says t m .says)))
 
 pub note-none : (t : List Text) (sec : Secondary) {o : List ℕ} {n : ℕ} → sec ≡ Secondary.None → Said o n o n (ended (noteLines t (secondaryOf sec))) 512
 unfolding noteLines ended
@@ -140,5 +116,9 @@ module _ (s : Sink) {b : ℕ} where
 pub report-past : (t : List Text) (d : Diagnostic) (s : Sink) (o : List ℕ) → SinkFits s → 256 < s .errors + s .warnings → Reported t d s o s o
 report-past t d s o f h = record { emits = sym (one-past t (diagnosticOf d) (writtenOf s o) h); fits = f }
 
-pub first-said : (t : List Text) (a b : ℕ) {p : Plan} {o : List ℕ} {n : ℕ} {o′ : List ℕ} {r k : ℕ} → p ≡ firstPlan a b → Said o n o′ r (planText t p) k → Wrote o n o′ r (ended (spaced (text "list") (decimal a ∷ decimal b ∷ []) ∷ []))
-first-said t a b e w = said-as w (ap (planText t) e ∙ first-text t a b) .wrote
+-- the parts of the first line
+pub first-said : (a b : ℕ) {o o₁ o₂ o₃ o₄ o′ : List ℕ} {n k₁ k₂ k₃ k₄ r i j : ℕ} → Wrote o n o₁ k₁ (text "list ") → Said o₁ k₁ o₂ k₂ (decimal a) i → Wrote o₂ k₂ o₃ k₃ (text " ") → Said o₃ k₃ o₄ k₄ (decimal b) j → Wrote o₄ k₄ o′ r (text "\n") → Wrote o n o′ r (ended (spaced (text "list") (decimal a ∷ decimal b ∷ []) ∷ []))
+unfolding ended spaced
+first-said a b {o} {o′ = o′} {n} {r = r} u v w x y =
+    let e = wrote-then u (wrote-then (v .wrote) (wrote-then w (wrote-then (x .wrote) y))) in
+    subst (λ (l : List ℕ). Wrote o n o′ r (text "list " ++ l)) (sym (append-assoc (decimal a) (32 ∷ decimal b) (10 ∷ []))) e

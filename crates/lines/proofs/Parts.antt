@@ -1,19 +1,19 @@
 -- The parts of a plan: the rows of the table, the ways out of the code, and what is left to write. Assumes nothing.
 use Prim.Native.Nat.{ℕ, zero, suc, _<_, _≤_, _+_, _-_, _*_}
 use mathlib.Core.Path.{_≡_, refl, sym, ap, _∙_}
-use mathlib.Core.Bool.{Bool, true, false, cond, _||_}
+use mathlib.Core.Bool.{Bool, true, false, cond, not, _&&_, _||_}
 use mathlib.Core.List.{List, [], _∷_, _++_}
 use mathlib.Core.Logic.{⊎-elim}
 use native.Mathlib.Omega.{arith}
 use native.Mathlib.Numerals.{add-one}
 use lib.Seq.{length-sets}
 use lib.ListN.{length, getD, drop, replicate, length-take, getD-replicate, List·getD-eq-default, drop-of-length-le}
-use lib.Dec.{T, eqb, leb, eqb→eq, leb→le}
+use lib.Dec.{T, eqb, leb, ltb, eqb→eq, leb→le, ltb→lt}
 use borrow.Author.Tests.{eq-eqb, ne-eqb}
 use Rattle.ast.specs.Tree.{Text}
 use Rattle.text.specs.Text.{part}
 use Rattle.text.specs.Decimal.{decimal}
-use Rattle.text.proofs.Table.{every, at}
+use Rattle.text.proofs.Table.{every, at, and-left, and-right}
 use Rattle.text.proofs.Clamp.{split}
 use Rattle.tree.specs.Decode.{textsOf}
 use Rattle.sema.specs.Messages.{nameAt}
@@ -32,15 +32,15 @@ all-rows : T (every isRow 0 plans)
 unfolding isRow plans
 all-rows = tt
 
-row-count : length plans ≡ 62
+row-count : length plans ≡ 59
 unfolding plans
 row-count = refl
 
-row-length : (kind : ℕ) → kind < 62 → length (rowAt kind) ≡ 9
+row-length : (kind : ℕ) → kind < 59 → length (rowAt kind) ≡ 9
 unfolding isRow rowAt
 row-length kind h = eqb→eq (length (getD plans kind [])) 9 (at isRow plans [] all-rows kind (omega (arith, row-count)))
 
-row-past : (kind : ℕ) → 62 ≤ kind → rowAt kind ≡ []
+row-past : (kind : ℕ) → 59 ≤ kind → rowAt kind ≡ []
 unfolding rowAt
 row-past kind h = List·getD-eq-default plans [] (omega (arith, row-count))
 
@@ -49,12 +49,22 @@ any-default [] k a b h = absurd (omega arith)
 any-default (x ∷ l) zero a b h = refl
 any-default (x ∷ l) (suc k) a b h = any-default l k a b (omega arith)
 
--- `part_of` reads the row, where there is one
-pub row-read : (kind k : ℕ) {r : ℕ} → kind < 62 → k < 9 → r ≡ getD (getD plans kind []) k 0 → r ≡ getD (rowAt kind) k noPart
+-- an arm of `row_of` has the row of its kind
+pub row-is : {kind : ℕ} (i : ℕ) {r : List ℕ} → T (ltb i 59) → kind ≡ i → r ≡ getD plans i [] → (k : ℕ) → k < 9 → getD r k 0 ≡ getD (rowAt kind) k noPart
 unfolding rowAt
-row-read kind k h g e = e ∙ any-default (getD plans kind []) k 0 noPart (omega (arith, row-length kind h))
+row-is i t e f k g =
+    rw (e, f) (any-default (getD plans i []) k 0 noPart (omega (arith, row-length i (ltb→lt i 59 t))))
 
-pub row-none : (kind k : ℕ) → 62 ≤ kind → noPart ≡ getD (rowAt kind) k noPart
+-- a kind that is none of the first n, as a match over them says it
+abbrev pub Missed : ℕ → ℕ → Type 0
+Missed zero kind = Unit {0}
+Missed (suc n) kind = Missed n kind × (kind ≡ n → ⊥)
+
+pub missed : (n kind : ℕ) → Missed n kind → n ≤ kind
+missed zero kind u = omega arith
+missed (suc n) kind u = let l = missed n kind (u .0) in let d = u .1 in omega arith
+
+pub row-none : (kind k : ℕ) → 59 ≤ kind → noPart ≡ getD (rowAt kind) k noPart
 row-none kind k h = rw (row-past kind h)
 
 pub nine-none : (k : ℕ) → k < 9 → getD (replicate 9 noPart) k 0 ≡ noPart
@@ -139,6 +149,45 @@ joined-next t p [] (suc k) = rw (no-part t p)
 joined-next t p (c ∷ cs) zero = refl
 joined-next t p (c ∷ cs) (suc k) = joined-next t p cs k
 
+-- the rule of a row's end: no part after no part
+blank : List ℕ → Bool
+blank [] = true
+blank (c ∷ cs) = eqb c noPart && blank cs
+
+stops : List ℕ → Bool
+stops [] = true
+stops (c ∷ cs) = (not (eqb c noPart) || blank cs) && stops cs
+
+isStopped : ℕ → List ℕ → Bool
+isStopped i r = stops r
+
+all-stopped : T (every isStopped 0 plans)
+unfolding isStopped plans blank stops
+all-stopped = tt
+
+row-stops : (kind : ℕ) → T (stops (rowAt kind))
+unfolding isStopped rowAt stops
+row-stops kind =
+    ⊎-elim
+    (λ (h : 59 ≤ kind). rw (List·getD-eq-default plans [] {n = kind} (omega (arith, row-count))) tt)
+    (λ (h : kind < 59). at isStopped plans [] all-stopped kind (omega (arith, row-count)))
+    (split 59 kind)
+
+module _ (t : List Text) (p : Plan) where
+  blank-says : (cs : List ℕ) → T (blank cs) → joined t p cs ≡ []
+  unfolding joined blank
+  blank-says [] u = refl
+  blank-says (c ∷ cs) u =
+      rw (eqb→eq c noPart (and-left (eqb c noPart) (blank cs) u), no-part t p) (blank-says cs (and-right (eqb c noPart) (blank cs) u))
+
+  stop-says : (row : List ℕ) (k : ℕ) → T (stops row) → getD row k noPart ≡ noPart → joined t p (drop k row) ≡ []
+  unfolding joined stops
+  stop-says [] zero u e = refl
+  stop-says [] (suc k) u e = refl
+  stop-says (c ∷ cs) zero u e =
+      rw (e, no-part t p) (blank-says cs (rw (eq-eqb c noPart e) at (and-left (not (eqb c noPart) || blank cs) (stops cs) u)))
+  stop-says (c ∷ cs) (suc k) u e = stop-says cs k (and-right (not (eqb c noPart) || blank cs) (stops cs) u) e
+
 no-room : partRoom noPart ≡ 0
 unfolding partRoom pieceRoom
 no-room = ap length (sym (phrase-none noPart (omega arith)))
@@ -162,16 +211,16 @@ pub row-room : (kind : ℕ) → rowRoom (rowAt kind) ≤ 336
 unfolding isTight rowAt rowRoom
 row-room kind =
     ⊎-elim
-    (λ (h : 62 ≤ kind). rw (List·getD-eq-default plans [] {n = kind} (omega (arith, row-count))) (omega arith))
-    (λ (h : kind < 62). leb→le (rowRoom (getD plans kind [])) 336 (at isTight plans [] all-tight kind (omega (arith, row-count))))
-    (split 62 kind)
+    (λ (h : 59 ≤ kind). rw (List·getD-eq-default plans [] {n = kind} (omega (arith, row-count))) (omega arith))
+    (λ (h : kind < 59). leb→le (rowRoom (getD plans kind [])) 336 (at isTight plans [] all-tight kind (omega (arith, row-count))))
+    (split 59 kind)
 
 row-end : (kind : ℕ) → drop 9 (rowAt kind) ≡ []
 row-end kind =
     ⊎-elim
-    (λ (h : 62 ≤ kind). rw (row-past kind h))
-    (λ (h : kind < 62). drop-of-length-le (rowAt kind) {i = 9} (omega (arith, row-length kind h)))
-    (split 62 kind)
+    (λ (h : 59 ≤ kind). rw (row-past kind h))
+    (λ (h : kind < 59). drop-of-length-le (rowAt kind) {i = 9} (omega (arith, row-length kind h)))
+    (split 59 kind)
 
 -- a part that is the name, among the first nine
 named-at : (row : List ℕ) (k : ℕ) → getD row k noPart ≡ aName → T (hasName row)
@@ -208,6 +257,11 @@ module _ (t : List Text) (p : Plan) {o : List ℕ} {n : ℕ} where
           room = rw (add-one k) (omega (arith, s .room, w .within, room-next (rowAt (p .kind)) k, ap partRoom e));
           left = rw (add-one k) (left-step (partText t p c) (joined t p (drop (suc k) (rowAt (p .kind)))) (left-as (s .left) (joined-next t p (rowAt (p .kind)) k ∙ rw e)) (w .wrote));
         }
+
+    -- at the first part that is none nothing is left
+    pub say-stop : {c : ℕ} → c ≡ getD (rowAt (p .kind)) k noPart → c ≡ noPart → Said o n b at (planText t p) (rowRoom (rowAt (p .kind)))
+    say-stop e h =
+        record { wrote = left-none (left-as (s .left) (stop-says t p (rowAt (p .kind)) k (row-stops (p .kind)) (sym e ∙ h))); within = omega (arith, s .room) }
 
     pub say-end : 9 ≤ k → Said o n b at (planText t p) (rowRoom (rowAt (p .kind)))
     unfolding joined rowRoom

@@ -7,18 +7,13 @@ use mathlib.Core.Logic.{_⊎_, inl, inr, ⊎-elim}
 use native.Mathlib.Omega.{arith}
 use native.Mathlib.Numerals.{add-one}
 use lib.ListN.{length, getD, take, drop, length-append, List·getD-eq-default}
-use lib.Seq.{drop-append-seam, take-append-seam, getD-take}
-use lib.Dec.{T, eqb, leb, eqb→eq, leb→le}
-use Rattle.text.specs.Text.{concat, part, same}
+use lib.Seq.{drop-append-seam, take-append-seam}
+use lib.Dec.{T, leb, leb→le}
+use Rattle.text.specs.Text.{concat, part}
 use Rattle.text.proofs.Table.{every, at}
-use Rattle.text.proofs.Same.{same-eq}
 use Rattle.text.proofs.Clamp.{split}
-use Rattle.lines.specs.Plans.{phrases, allWords, phrase, wordAt}
-
--- where each of some texts starts, one after the other from n on, and where the last one ends
-abbrev starts : ℕ → List (List ℕ) → List ℕ
-starts n [] = n ∷ []
-starts n (x ∷ xs) = n ∷ starts (n + length x) xs
+use Rattle.lines.specs.Plans.{phrases, allWords, starts, phrasePlaces, Lent, phrase}
+use Rattle.lines.specs.Stored.{Shown}
 
 starts-first : (n : ℕ) (xs : List (List ℕ)) → getD (starts n xs) 0 0 ≡ n
 starts-first n [] = refl
@@ -34,18 +29,15 @@ between (x ∷ xs) pre zero h =
     rw (starts-first (length pre + length x) xs, over-first (length pre) (length x), drop-append-seam pre (x ++ concat xs)) (take-append-seam x (concat xs))
 between (x ∷ xs) pre (suc k) h = rw (length-append pre x, append-assoc pre x (concat xs)) at (between xs (pre ++ x) k (omega arith))
 
-unfoldable pub phrasePlaces : List ℕ
-phrasePlaces = starts 0 phrases
-
-phrase-count : length phrases ≡ 112
+phrase-count : length phrases ≡ 96
 unfolding phrases
 phrase-count = refl
 
-pub phrase-part : (w : List ℕ) (n : ℕ) → w ≡ allWords → n < 112 → part (getD phrasePlaces n 0) (getD phrasePlaces (n + 1) 0) w ≡ phrase n
+pub phrase-part : (w : List ℕ) (n : ℕ) → w ≡ allWords → n < 96 → part (getD phrasePlaces n 0) (getD phrasePlaces (n + 1) 0) w ≡ phrase n
 unfolding phrasePlaces allWords phrase
 phrase-part w n e h = rw (e, add-one n) (between phrases [] n (omega (arith, phrase-count)))
 
-pub phrase-none : (n : ℕ) → 112 ≤ n → [] ≡ phrase n
+pub phrase-none : (n : ℕ) → 96 ≤ n → [] ≡ phrase n
 unfolding phrase
 phrase-none n h = sym (List·getD-eq-default phrases [] (omega (arith, phrase-count)))
 
@@ -61,47 +53,12 @@ pub phrase-short : (n : ℕ) → length (phrase n) ≤ 110
 unfolding isShort phrase
 phrase-short n =
     ⊎-elim
-    (λ (h : 112 ≤ n). omega (arith, ap length (phrase-none n h)))
-    (λ (h : n < 112). leb→le (length (getD phrases n [])) 110 (at isShort phrases [] all-short n (omega (arith, phrase-count))))
-    (split 112 n)
+    (λ (h : 96 ≤ n). omega (arith, ap length (phrase-none n h)))
+    (λ (h : n < 96). leb→le (length (getD phrases n [])) 110 (at isShort phrases [] all-short n (omega (arith, phrase-count))))
+    (split 96 n)
 
-true-of : (b : Bool) → T b → b ≡ true
-true-of true t = refl
-true-of false t = absurd t
-
--- the rule of a digit's phrase
-isDigit : ℕ → List ℕ → Bool
-isDigit i x = same x ((48 + i) ∷ [])
-
-all-digits : T (every isDigit 0 (take 10 phrases))
-unfolding isDigit phrases
-all-digits = tt
-
-ten : length (take 10 phrases) ≡ 10
-unfolding phrases
-ten = refl
-
-pub digit-phrase : (x : ℕ) → x < 10 → phrase x ≡ (48 + x) ∷ []
-unfolding isDigit phrase
-digit-phrase x h =
-    sym (getD-take 10 phrases x [] h)
-    ∙ same-eq (getD (take 10 phrases) x []) ((48 + x) ∷ []) (true-of (isDigit x (getD (take 10 phrases) x [])) (at isDigit (take 10 phrases) [] all-digits x (omega (arith, ten))))
-
--- the digits' phrases stand at their own numbers
-isOwn : ℕ → ℕ → Bool
-isOwn i x = eqb x i
-
-all-own : T (every isOwn 0 (take 11 phrasePlaces))
-unfolding isOwn phrasePlaces phrases
-all-own = tt
-
-eleven : length (take 11 phrasePlaces) ≡ 11
-unfolding phrasePlaces phrases
-eleven = refl
-
-own-place : (x : ℕ) → x < 11 → getD phrasePlaces x 0 ≡ x
-unfolding isOwn
-own-place x h = sym (getD-take 11 phrasePlaces x 0 h) ∙ eqb→eq (getD (take 11 phrasePlaces) x 0) x (at isOwn (take 11 phrasePlaces) 0 all-own x (omega (arith, eleven)))
-
-pub digit-part : (w : List ℕ) (x : ℕ) → w ≡ allWords → x < 10 → part x (x + 1) w ≡ (48 + x) ∷ []
-digit-part w x e h = rw (own-place x (omega arith), own-place (x + 1) (omega arith)) at (phrase-part w x e (omega arith)) ∙ digit-phrase x h
+-- `phrase_of` reads the phrase
+pub phrase-read : {w q : List ℕ} (n : ℕ) {a e : ℕ} {r : List ℕ} → Lent w q → n < 96 → a ≡ getD q n 0 → e ≡ getD q (n + 1) 0 → r ≡ part a e w → Shown r (phrase n) 110
+phrase-read {w} n {r = r} t h f g i =
+    let s : r ≡ phrase n = i ∙ rw (f, g, t .starting) (phrase-part w n (t .words) h) in
+    record { shows = s; short = omega (arith, ap length s, phrase-short n) }

@@ -16,30 +16,31 @@ use Rattle.lines.specs.declared.Plan.{Plan}
 
 -- the words, as numbers of phrases
 abbrev pub typeWord : ClassicalType → ℕ
-typeWord ClassicalType.Int = 10
-typeWord ClassicalType.UInt = 11
-typeWord ClassicalType.Float = 12
-typeWord ClassicalType.Angle = 13
-typeWord ClassicalType.Bool = 14
+typeWord ClassicalType.Int = 0
+typeWord ClassicalType.UInt = 1
+typeWord ClassicalType.Float = 2
+typeWord ClassicalType.Angle = 3
+typeWord ClassicalType.Bool = 4
 
 abbrev pub kindWord : SymbolKind → ℕ
-kindWord SymbolKind.Qubit = 20
-kindWord SymbolKind.Bit = 21
+kindWord SymbolKind.Qubit = 10
+kindWord SymbolKind.Bit = 11
 kindWord (SymbolKind.Classical ty) = typeWord ty
 kindWord (SymbolKind.Const ty) = 5 + typeWord ty
-kindWord SymbolKind.GateParam = 22
-kindWord SymbolKind.GateQubit = 23
+kindWord SymbolKind.GateParam = 12
+kindWord SymbolKind.GateQubit = 13
 
 abbrev pub expectedWord : Expected → ℕ
-expectedWord Expected.Qubit = 20
-expectedWord Expected.Bit = 21
+expectedWord Expected.Qubit = 10
+expectedWord Expected.Bit = 11
 
-abbrev pub letterWord : Severity → ℕ
-letterWord Severity.Error = 24
-letterWord Severity.Warning = 25
+-- the letters of a line, as bytes
+abbrev pub letterByte : Severity → ℕ
+letterByte Severity.Error = 69
+letterByte Severity.Warning = 87
 
-abbrev pub noteWord : ℕ
-noteWord = 26
+abbrev pub noteByte : ℕ
+noteByte = 78
 
 -- the plans that name the place of a type
 abbrev pub placeKind : Place → ℕ

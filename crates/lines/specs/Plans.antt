@@ -1,5 +1,5 @@
 -- The wording's phrases, the plan of each message, and what a plan says.
-use Prim.Native.Nat.{ℕ, _+_, _-_, _/_, _%_, _^_, _<_}
+use Prim.Native.Nat.{ℕ, _+_, _-_, _<_}
 use mathlib.Core.Path.{_≡_}
 use mathlib.Core.Bool.{Bool, true, false, cond, _||_}
 use mathlib.Core.List.{List, [], _∷_, _++_}
@@ -43,13 +43,12 @@ rowLength = 9
 abbrev row : List ℕ → List ℕ
 row parts = parts ++ replicate (rowLength - length parts) noPart
 
--- the phrases, by their numbers: the digits, the words, and those of the messages
+-- the phrases, by their numbers: the words, and those of the messages
 unfoldable pub phrases : List (List ℕ)
 phrases =
-    text "0" ∷ text "1" ∷ text "2" ∷ text "3" ∷ text "4" ∷ text "5" ∷ text "6" ∷ text "7" ∷ text "8" ∷ text "9"
-    ∷ text "int" ∷ text "uint" ∷ text "float" ∷ text "angle" ∷ text "bool" ∷ text "const int" ∷ text "const uint"
+    text "int" ∷ text "uint" ∷ text "float" ∷ text "angle" ∷ text "bool" ∷ text "const int" ∷ text "const uint"
     ∷ text "const float" ∷ text "const angle" ∷ text "const bool" ∷ text "qubit" ∷ text "bit" ∷ text "gate parameter"
-    ∷ text "gate qubit" ∷ text "E " ∷ text "W " ∷ text "N " ∷ text "`" ∷ text "` is already declared in this scope"
+    ∷ text "gate qubit" ∷ text "`" ∷ text "` is already declared in this scope"
     ∷ text "` is not declared" ∷ text "expected " ∷ text ", but `" ∷ text "` is a " ∷ text "cannot index gate qubit `"
     ∷ text "` — gate qubits are single wires" ∷ text "index " ∷ text " is out of bounds for `" ∷ text "` (size "
     ∷ text ")" ∷ text "cannot index `" ∷ text "` — it is a single qubit/bit, not a register" ∷ text "slice " ∷ text ":"
@@ -73,79 +72,88 @@ phrases =
     ∷ text "arithmetic operators require numeric operands" ∷ text "comparison operands have incompatible types"
     ∷ text "` first declared here" ∷ text "` declared as " ∷ text " here" ∷ text "` declared with size "
     ∷ text "` declared without a size here" ∷ text "qubit was measured here" ∷ text "` defined here"
-    ∷ text "first defined here" ∷ text "measurement target declared here" ∷ text "function defined here" ∷ text " "
-    ∷ text "\n" ∷ text "list " ∷ []
+    ∷ text "first defined here" ∷ text "measurement target declared here" ∷ text "function defined here" ∷ []
 
 -- the plans, by kind
 unfoldable pub plans : List (List ℕ)
 plans =
-    row (27 ∷ aName ∷ 28 ∷ [])  -- 0: alreadyDeclared
-    ∷ row (27 ∷ aName ∷ 29 ∷ [])  -- 1: notDeclared
-    ∷ row (30 ∷ aWord ∷ 31 ∷ aName ∷ 32 ∷ anOther ∷ [])  -- 2: expectedKind
-    ∷ row (33 ∷ aName ∷ 34 ∷ [])  -- 3: cannotIndexGateQubit
-    ∷ row (35 ∷ aFirst ∷ 36 ∷ aName ∷ 37 ∷ aSecond ∷ 38 ∷ [])  -- 4: indexOutOfBounds
-    ∷ row (39 ∷ aName ∷ 40 ∷ [])  -- 5: cannotIndex
-    ∷ row (41 ∷ aFirst ∷ 42 ∷ aSecond ∷ 36 ∷ aName ∷ 37 ∷ aThird ∷ 38 ∷ [])  -- 6: sliceOutOfBounds
-    ∷ row (43 ∷ aName ∷ 27 ∷ [])  -- 7: cannotSlice
-    ∷ row (44 ∷ aName ∷ 45 ∷ aFirst ∷ 46 ∷ [])  -- 8: usedIndex
-    ∷ row (44 ∷ aName ∷ 47 ∷ [])  -- 9: used, whole
-    ∷ row (44 ∷ aName ∷ 45 ∷ aFirst ∷ 48 ∷ 47 ∷ [])  -- 10: used, index
-    ∷ row (44 ∷ aName ∷ 45 ∷ aFirst ∷ 42 ∷ aSecond ∷ 48 ∷ 47 ∷ [])  -- 11: used, slice
-    ∷ row (49 ∷ aName ∷ 50 ∷ [])  -- 12: constWithoutInit
-    ∷ row (51 ∷ aName ∷ 52 ∷ [])  -- 13: inputWithInit
-    ∷ row (53 ∷ aWord ∷ 54 ∷ aName ∷ 55 ∷ anOther ∷ 56 ∷ [])  -- 14: cannotInitialize
-    ∷ row (57 ∷ aWord ∷ 58 ∷ anOther ∷ 54 ∷ aName ∷ 27 ∷ [])  -- 15: cannotAssign
-    ∷ row (59 ∷ [])  -- 16: compoundNumeric
-    ∷ row (60 ∷ aName ∷ 27 ∷ [])  -- 17: assignToConst
-    ∷ row (27 ∷ aName ∷ 61 ∷ [])  -- 18: notAssignable
-    ∷ row (62 ∷ aName ∷ 63 ∷ aFirst ∷ 64 ∷ aSecond ∷ [])  -- 19: gateParams
-    ∷ row (62 ∷ aName ∷ 63 ∷ aFirst ∷ 65 ∷ aSecond ∷ [])  -- 20: gateQubits
-    ∷ row (62 ∷ aName ∷ 63 ∷ aFirst ∷ aSecond ∷ 65 ∷ aThird ∷ [])  -- 21: gateQubits, in two parts
-    ∷ row (62 ∷ aName ∷ 66 ∷ [])  -- 22: gateNotDefined
-    ∷ row (67 ∷ [])  -- 23: paramsNumeric
-    ∷ row (68 ∷ [])  -- 24: broadcasting
-    ∷ row (62 ∷ aName ∷ 69 ∷ [])  -- 25: gateAlreadyDefined
-    ∷ row (70 ∷ aName ∷ 69 ∷ [])  -- 26: functionAlreadyDefined
-    ∷ row (70 ∷ aName ∷ 71 ∷ aWord ∷ 72 ∷ anOther ∷ [])  -- 27: functionReturns
-    ∷ row (73 ∷ aFirst ∷ 74 ∷ aSecond ∷ 75 ∷ [])  -- 28: measurementWidths
-    ∷ row (76 ∷ aName ∷ 77 ∷ [])  -- 29: alreadyMeasured, whole
-    ∷ row (76 ∷ aName ∷ 45 ∷ aFirst ∷ 48 ∷ 77 ∷ [])  -- 30: alreadyMeasured, index
-    ∷ row (76 ∷ aName ∷ 45 ∷ aFirst ∷ 42 ∷ aSecond ∷ 48 ∷ 77 ∷ [])  -- 31: alreadyMeasured, slice
-    ∷ row (78 ∷ [])  -- 32: delayNumeric
-    ∷ row (79 ∷ [])  -- 33: forVariable
-    ∷ row (80 ∷ [])  -- 34: controlCount
-    ∷ row (81 ∷ [])  -- 35: powerNumeric
-    ∷ row (82 ∷ 83 ∷ aWord ∷ 84 ∷ anOther ∷ [])  -- 36: mustHaveType, ifCondition
-    ∷ row (85 ∷ 83 ∷ aWord ∷ 84 ∷ anOther ∷ [])  -- 37: mustHaveType, whileCondition
-    ∷ row (86 ∷ 83 ∷ aWord ∷ 84 ∷ anOther ∷ [])  -- 38: mustHaveType, rangeBound
-    ∷ row (87 ∷ 83 ∷ aWord ∷ 84 ∷ anOther ∷ [])  -- 39: mustHaveType, rangeStep
-    ∷ row (88 ∷ 83 ∷ aWord ∷ 84 ∷ anOther ∷ [])  -- 40: mustHaveType, controlArgument
-    ∷ row (27 ∷ aName ∷ 89 ∷ [])  -- 41: notClassical
-    ∷ row (90 ∷ aName ∷ 27 ∷ [])  -- 42: cannotIndexBit
-    ∷ row (27 ∷ aName ∷ 91 ∷ [])  -- 43: notIndexable
-    ∷ row (70 ∷ aName ∷ 66 ∷ [])  -- 44: functionNotDefined
-    ∷ row (70 ∷ aName ∷ 63 ∷ aFirst ∷ 92 ∷ aSecond ∷ [])  -- 45: functionArguments
-    ∷ row (93 ∷ aFirst ∷ 94 ∷ aName ∷ 95 ∷ aWord ∷ 84 ∷ anOther ∷ [])  -- 46: argumentType
-    ∷ row (96 ∷ [])  -- 47: negationNumeric
-    ∷ row (97 ∷ [])  -- 48: arithmeticNumeric
-    ∷ row (98 ∷ [])  -- 49: comparisonTypes
-    ∷ row (27 ∷ aName ∷ 99 ∷ [])  -- 50: firstDeclared
-    ∷ row (27 ∷ aName ∷ 100 ∷ aWord ∷ 101 ∷ [])  -- 51: declaredAs
-    ∷ row (27 ∷ aName ∷ 102 ∷ aFirst ∷ 101 ∷ [])  -- 52: declaredWithSize
-    ∷ row (27 ∷ aName ∷ 103 ∷ [])  -- 53: declaredWithoutSize
-    ∷ row (104 ∷ [])  -- 54: measuredHere
-    ∷ row (27 ∷ aName ∷ 105 ∷ [])  -- 55: definedHere
-    ∷ row (106 ∷ [])  -- 56: firstDefined
-    ∷ row (107 ∷ [])  -- 57: targetDeclared
-    ∷ row (108 ∷ [])  -- 58: functionDefined
-    ∷ row (aWord ∷ aFirst ∷ 109 ∷ aSecond ∷ 109 ∷ [])  -- 59: the head of a line
-    ∷ row (110 ∷ [])  -- 60: the end of a line
-    ∷ row (111 ∷ aFirst ∷ 109 ∷ aSecond ∷ 110 ∷ [])  -- 61: the first line
+    row (14 ∷ aName ∷ 15 ∷ [])  -- 0: alreadyDeclared
+    ∷ row (14 ∷ aName ∷ 16 ∷ [])  -- 1: notDeclared
+    ∷ row (17 ∷ aWord ∷ 18 ∷ aName ∷ 19 ∷ anOther ∷ [])  -- 2: expectedKind
+    ∷ row (20 ∷ aName ∷ 21 ∷ [])  -- 3: cannotIndexGateQubit
+    ∷ row (22 ∷ aFirst ∷ 23 ∷ aName ∷ 24 ∷ aSecond ∷ 25 ∷ [])  -- 4: indexOutOfBounds
+    ∷ row (26 ∷ aName ∷ 27 ∷ [])  -- 5: cannotIndex
+    ∷ row (28 ∷ aFirst ∷ 29 ∷ aSecond ∷ 23 ∷ aName ∷ 24 ∷ aThird ∷ 25 ∷ [])  -- 6: sliceOutOfBounds
+    ∷ row (30 ∷ aName ∷ 14 ∷ [])  -- 7: cannotSlice
+    ∷ row (31 ∷ aName ∷ 32 ∷ aFirst ∷ 33 ∷ [])  -- 8: usedIndex
+    ∷ row (31 ∷ aName ∷ 34 ∷ [])  -- 9: used, whole
+    ∷ row (31 ∷ aName ∷ 32 ∷ aFirst ∷ 35 ∷ 34 ∷ [])  -- 10: used, index
+    ∷ row (31 ∷ aName ∷ 32 ∷ aFirst ∷ 29 ∷ aSecond ∷ 35 ∷ 34 ∷ [])  -- 11: used, slice
+    ∷ row (36 ∷ aName ∷ 37 ∷ [])  -- 12: constWithoutInit
+    ∷ row (38 ∷ aName ∷ 39 ∷ [])  -- 13: inputWithInit
+    ∷ row (40 ∷ aWord ∷ 41 ∷ aName ∷ 42 ∷ anOther ∷ 43 ∷ [])  -- 14: cannotInitialize
+    ∷ row (44 ∷ aWord ∷ 45 ∷ anOther ∷ 41 ∷ aName ∷ 14 ∷ [])  -- 15: cannotAssign
+    ∷ row (46 ∷ [])  -- 16: compoundNumeric
+    ∷ row (47 ∷ aName ∷ 14 ∷ [])  -- 17: assignToConst
+    ∷ row (14 ∷ aName ∷ 48 ∷ [])  -- 18: notAssignable
+    ∷ row (49 ∷ aName ∷ 50 ∷ aFirst ∷ 51 ∷ aSecond ∷ [])  -- 19: gateParams
+    ∷ row (49 ∷ aName ∷ 50 ∷ aFirst ∷ 52 ∷ aSecond ∷ [])  -- 20: gateQubits
+    ∷ row (49 ∷ aName ∷ 50 ∷ aFirst ∷ aSecond ∷ 52 ∷ aThird ∷ [])  -- 21: gateQubits, in two parts
+    ∷ row (49 ∷ aName ∷ 53 ∷ [])  -- 22: gateNotDefined
+    ∷ row (54 ∷ [])  -- 23: paramsNumeric
+    ∷ row (55 ∷ [])  -- 24: broadcasting
+    ∷ row (49 ∷ aName ∷ 56 ∷ [])  -- 25: gateAlreadyDefined
+    ∷ row (57 ∷ aName ∷ 56 ∷ [])  -- 26: functionAlreadyDefined
+    ∷ row (57 ∷ aName ∷ 58 ∷ aWord ∷ 59 ∷ anOther ∷ [])  -- 27: functionReturns
+    ∷ row (60 ∷ aFirst ∷ 61 ∷ aSecond ∷ 62 ∷ [])  -- 28: measurementWidths
+    ∷ row (63 ∷ aName ∷ 64 ∷ [])  -- 29: alreadyMeasured, whole
+    ∷ row (63 ∷ aName ∷ 32 ∷ aFirst ∷ 35 ∷ 64 ∷ [])  -- 30: alreadyMeasured, index
+    ∷ row (63 ∷ aName ∷ 32 ∷ aFirst ∷ 29 ∷ aSecond ∷ 35 ∷ 64 ∷ [])  -- 31: alreadyMeasured, slice
+    ∷ row (65 ∷ [])  -- 32: delayNumeric
+    ∷ row (66 ∷ [])  -- 33: forVariable
+    ∷ row (67 ∷ [])  -- 34: controlCount
+    ∷ row (68 ∷ [])  -- 35: powerNumeric
+    ∷ row (69 ∷ 70 ∷ aWord ∷ 71 ∷ anOther ∷ [])  -- 36: mustHaveType, ifCondition
+    ∷ row (72 ∷ 70 ∷ aWord ∷ 71 ∷ anOther ∷ [])  -- 37: mustHaveType, whileCondition
+    ∷ row (73 ∷ 70 ∷ aWord ∷ 71 ∷ anOther ∷ [])  -- 38: mustHaveType, rangeBound
+    ∷ row (74 ∷ 70 ∷ aWord ∷ 71 ∷ anOther ∷ [])  -- 39: mustHaveType, rangeStep
+    ∷ row (75 ∷ 70 ∷ aWord ∷ 71 ∷ anOther ∷ [])  -- 40: mustHaveType, controlArgument
+    ∷ row (14 ∷ aName ∷ 76 ∷ [])  -- 41: notClassical
+    ∷ row (77 ∷ aName ∷ 14 ∷ [])  -- 42: cannotIndexBit
+    ∷ row (14 ∷ aName ∷ 78 ∷ [])  -- 43: notIndexable
+    ∷ row (57 ∷ aName ∷ 53 ∷ [])  -- 44: functionNotDefined
+    ∷ row (57 ∷ aName ∷ 50 ∷ aFirst ∷ 79 ∷ aSecond ∷ [])  -- 45: functionArguments
+    ∷ row (80 ∷ aFirst ∷ 81 ∷ aName ∷ 82 ∷ aWord ∷ 71 ∷ anOther ∷ [])  -- 46: argumentType
+    ∷ row (83 ∷ [])  -- 47: negationNumeric
+    ∷ row (84 ∷ [])  -- 48: arithmeticNumeric
+    ∷ row (85 ∷ [])  -- 49: comparisonTypes
+    ∷ row (14 ∷ aName ∷ 86 ∷ [])  -- 50: firstDeclared
+    ∷ row (14 ∷ aName ∷ 87 ∷ aWord ∷ 88 ∷ [])  -- 51: declaredAs
+    ∷ row (14 ∷ aName ∷ 89 ∷ aFirst ∷ 88 ∷ [])  -- 52: declaredWithSize
+    ∷ row (14 ∷ aName ∷ 90 ∷ [])  -- 53: declaredWithoutSize
+    ∷ row (91 ∷ [])  -- 54: measuredHere
+    ∷ row (14 ∷ aName ∷ 92 ∷ [])  -- 55: definedHere
+    ∷ row (93 ∷ [])  -- 56: firstDefined
+    ∷ row (94 ∷ [])  -- 57: targetDeclared
+    ∷ row (95 ∷ [])  -- 58: functionDefined
     ∷ []
 
--- the one constant that every phrase and every digit is a part of
+-- the one constant that every phrase is a part of
 unfoldable pub allWords : List ℕ
 allWords = concat phrases
+
+-- where each of some texts starts, one after the other from n on, and where the last one ends
+abbrev pub starts : ℕ → List (List ℕ) → List ℕ
+starts n [] = n ∷ []
+starts n (x ∷ xs) = n ∷ starts (n + length x) xs
+
+unfoldable pub phrasePlaces : List ℕ
+phrasePlaces = starts 0 phrases
+
+-- the tables that are lent: the wording, and where its phrases stand
+pub record Lent (wording places : List ℕ) : Type 0 where
+  pub words : wording ≡ allWords
+  pub starting : places ≡ phrasePlaces
 
 unfoldable pub phrase : ℕ → List ℕ
 phrase n = getD phrases n []
@@ -153,10 +161,6 @@ phrase n = getD phrases n []
 -- a phrase that a plan names
 unfoldable pub wordAt : ℕ → List ℕ
 wordAt n = phrase n
-
--- the digit of n that d digits stand behind
-abbrev pub digit : ℕ → ℕ → ℕ
-digit n d = 48 + n / 10 ^ d % 10
 
 unfoldable pub rowAt : ℕ → List ℕ
 rowAt kind = getD plans kind []
@@ -216,15 +220,10 @@ pub record Readable (tree index : List ℕ) (x : ℕ) : Type 0 where
 abbrev pub Named : List ℕ → List ℕ → Plan → Type 0
 Named tree index p = T (hasName (rowAt (p .kind))) → Readable tree index (p .name)
 
+-- the head of a line: its letter and its span
+unfoldable pub headText : ℕ → Span → List ℕ
+headText letter sp = letter ∷ 32 ∷ (decimal (sp .start) ++ (32 ∷ (decimal (sp .end) ++ (32 ∷ []))))
+
 -- a line: its head, what it says, its end
-abbrev pub headPlan : ℕ → Span → Plan
-headPlan letter sp = record { kind = 59; name = 0; first = sp .start; second = sp .end; third = 0; word = letter; other = 0 }
-
-abbrev pub endPlan : Plan
-endPlan = record { kind = 60; name = 0; first = 0; second = 0; third = 0; word = 0; other = 0 }
-
-abbrev pub firstPlan : ℕ → ℕ → Plan
-firstPlan errors warnings = record { kind = 61; name = 0; first = errors; second = warnings; third = 0; word = 0; other = 0 }
-
 unfoldable pub lineText : List Text → ℕ → Span → Plan → List ℕ
-lineText t letter sp p = planText t (headPlan letter sp) ++ (planText t p ++ planText t endPlan)
+lineText t letter sp p = headText letter sp ++ (planText t p ++ (10 ∷ []))

@@ -3,7 +3,7 @@ use Prim.Native.Nat.{ℕ, zero, suc, _+_, _≤_}
 use mathlib.Core.Path.{_≡_, _∙_}
 use mathlib.Core.List.{List, [], _∷_, _++_}
 use native.Mathlib.Nat.{add-zero, add-suc, suc-add}
-use lib.ListN.{length, set}
+use lib.ListN.{length, drop, set}
 use lib.Seq.{sets}
 
 -- the list xs was stored in o from n on: o′ is what is there now, and r the place after
@@ -15,6 +15,12 @@ pub record Wrote (o : List ℕ) (n : ℕ) (o′ : List ℕ) (r : ℕ) (xs : List
 pub record Said (o : List ℕ) (n : ℕ) (o′ : List ℕ) (r : ℕ) (xs : List ℕ) (room : ℕ) : Type 0 where
   pub wrote : Wrote o n o′ r xs
   pub within : r ≤ n + room
+
+-- the list xs was stored in b up to the place end: b′ is what is there now, and r where xs starts
+pub record Before (b : List ℕ) (end : ℕ) (b′ : List ℕ) (r : ℕ) (xs : List ℕ) : Type 0 where
+  pub shows : drop r b′ ≡ xs ++ drop end b
+  pub start : r + length xs ≡ end
+  pub size : length b′ ≡ length b
 
 -- a piece of a message is a text of so many bytes at most
 pub record Shown (r xs : List ℕ) (room : ℕ) : Type 0 where

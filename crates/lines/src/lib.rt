@@ -21,7 +21,7 @@ ghost use Rattle.context.specs.Sink.{SinkFits};
 ghost use Rattle.context.specs.View.{TextsAt};
 ghost use Rattle.lines.specs.Values.{severityOf, messageOf, secondaryOf, nameIn, Below, NoteBelow, Fits, countedOf, errorOf, errorWithNoteOf, warningOf, Reported};
 ghost use Rattle.lines.specs.Stored.{Wrote, Said};
-ghost use Rattle.lines.specs.Plans.{Named, lineText};
+ghost use Rattle.lines.specs.Plans.{Lent, Named, lineText};
 
 pub enum Severity {
     Error,
@@ -158,55 +158,68 @@ struct Plan {
     other: usize,
 }
 
-// A line: the letter, the span, what the plan says. 59 is the plan of its head, 60 of its end.
-fn line(
+// A line: the letter, the span, what the plan says.
+fn line<'a>(
     out: &mut [u8],
     n: usize,
-    tree: &[u8],
+    tree: &'a [u8],
     index: &[u64],
-    letter: usize,
+    wording: &'a [u8],
+    places: &[u16; 97],
+    letter: u8,
     span: Span,
     p: Plan,
 ) -> usize
-    requires { ⌜ (n < 1048576) × TextsAt (now tree) (now index) × Named (now tree) (now index) p ⌝ }
+    requires { ⌜ (n < 1048576) × Lent (now wording) (now places) × TextsAt (now tree) (now index) × Named (now tree) (now index) p ⌝ }
     ensures { λ r. ⌜ Said (now (out .entry)) n (now (out .exit)) r (lineText (textsOf (now (tree .entry))) letter span p) 512 ⌝ }
 {
-    let head = Plan {
-        kind: 59,
-        name: 0,
-        first: span.start as u64,
-        second: span.end as u64,
-        third: 0,
-        word: letter,
-        other: 0,
-    };
-    let a = pieces::write(out, n, tree, index, head);
-    let b = pieces::write(out, a, tree, index, p);
-    pieces::write(out, b, tree, index, plans::plain(60))
+    let a = pieces::head(out, n, letter, span);
+    let b = pieces::write(out, a, tree, index, wording, places, p);
+    pieces::copy(out, b, b"\n")
 }
 
-// The note's line, where there is a note; 26 is its letter.
-fn note_line(out: &mut [u8], n: usize, tree: &[u8], index: &[u64], secondary: Secondary) -> usize
-    requires { ⌜ (n < 1048576) × TextsAt (now tree) (now index) × NoteBelow (length (textsOf (now tree))) secondary ⌝ }
+// The note's line, where there is a note.
+fn note_line<'a>(
+    out: &mut [u8],
+    n: usize,
+    tree: &'a [u8],
+    index: &[u64],
+    wording: &'a [u8],
+    places: &[u16; 97],
+    secondary: Secondary,
+) -> usize
+    requires { ⌜ (n < 1048576) × Lent (now wording) (now places) × TextsAt (now tree) (now index) × NoteBelow (length (textsOf (now tree))) secondary ⌝ }
     ensures { λ r. ⌜ Said (now (out .entry)) n (now (out .exit)) r (ended (noteLines (textsOf (now (tree .entry))) (secondaryOf secondary))) 512 ⌝ }
 {
     let Secondary::Some(note, span) = secondary else {
         return n;
     };
-    line(out, n, tree, index, 26, span, plans::note_plan(note))
+    line(
+        out,
+        n,
+        tree,
+        index,
+        wording,
+        places,
+        b'N',
+        span,
+        plans::note_plan(note),
+    )
 }
 
 // The message's line.
-fn message_line(
+fn message_line<'a>(
     out: &mut [u8],
     n: usize,
-    tree: &[u8],
+    tree: &'a [u8],
     index: &[u64],
+    wording: &'a [u8],
+    places: &[u16; 97],
     severity: Severity,
     span: Span,
     message: Message,
 ) -> usize
-    requires { ⌜ (n < 1048576) × TextsAt (now tree) (now index) × Below (length (textsOf (now tree))) (nameIn message) ⌝ }
+    requires { ⌜ (n < 1048576) × Lent (now wording) (now places) × TextsAt (now tree) (now index) × Below (length (textsOf (now tree))) (nameIn message) ⌝ }
     ensures { λ r. ⌜ Said (now (out .entry)) n (now (out .exit)) r (ended (spanLine (letter (severityOf severity)) span (messageText (textsOf (now (tree .entry))) (messageOf message)) ∷ [])) 512 ⌝ }
 {
     line(
@@ -214,7 +227,9 @@ fn message_line(
         n,
         tree,
         index,
-        plans::letter_word(severity),
+        wording,
+        places,
+        plans::letter_of(severity),
         span,
         plans::message_plan(message),
     )
@@ -254,21 +269,30 @@ pub fn report(out: &mut [u8], sink: Sink, tree: &[u8], index: &[u64], d: Diagnos
     let span = d.span;
     let message = d.message;
     let secondary = d.secondary;
-    let a = message_line(out, n, tree, index, severity, span, message);
-    let b = note_line(out, a, tree, index, secondary);
+    let wording = tables::WORDING;
+    let places = tables::PHRASE_AT;
+    let a = message_line(
+        out,
+        n,
+        tree,
+        index,
+        &wording,
+        &places,
+        severity,
+        span,
+        message,
+    );
+    let b = note_line(out, a, tree, index, &wording, &places, secondary);
     counted(sink, severity, b)
 }
 
-// The listing's first line, from place 0 on: the plan 61. The answer is its length.
+// The listing's first line, from place 0 on. The answer is its length.
 pub fn first_line(out: &mut [u8], errors: usize, warnings: usize) -> usize
     ensures { λ r. ⌜ Wrote (now (out .entry)) 0 (now (out .exit)) r (ended (spaced (text "list") (decimal errors ∷ decimal warnings ∷ []) ∷ [])) ⌝ }
 {
-    let none = [0u64; 1];
-    pieces::write(
-        out,
-        0,
-        b"",
-        &none,
-        plans::numbered(61, 0, errors as u64, warnings as u64, 0),
-    )
+    let a = pieces::copy(out, 0, b"list ");
+    let b = pieces::number(out, a, errors as u64);
+    let c = pieces::copy(out, b, b" ");
+    let d = pieces::number(out, c, warnings as u64);
+    pieces::copy(out, d, b"\n")
 }

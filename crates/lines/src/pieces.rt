@@ -1,15 +1,16 @@
 // Pieces of texts, and the storing of what a plan says.
 use super::Plan;
 use super::tables;
+use span::Span;
 ghost use mathlib.Core.Path.{_≡_};
-ghost use Prim.Native.Nat.{ℕ, _≤_, _<_, _+_, _/_, _^_};
-ghost use mathlib.Core.List.{_∷_, []};
-ghost use lib.ListN.{length, getD, set};
+ghost use Prim.Native.Nat.{_≤_, _<_, _+_};
+ghost use lib.ListN.{length};
+ghost use lib.Seq.{sets};
 ghost use Rattle.text.specs.Decimal.{decimal};
 ghost use Rattle.sema.specs.Messages.{nameAt};
 ghost use Rattle.tree.specs.Decode.{textsOf};
-ghost use Rattle.lines.specs.Stored.{Wrote, Said, Shown};
-ghost use Rattle.lines.specs.Plans.{allWords, aName, digit, phrase, rowAt, noPart, pieceText, pieceRoom, partText, partRoom, rowRoom, planText, Readable, Named};
+ghost use Rattle.lines.specs.Stored.{Wrote, Said, Before, Shown};
+ghost use Rattle.lines.specs.Plans.{Lent, aName, phrase, rowAt, pieceText, pieceRoom, partText, partRoom, rowRoom, planText, headText, Readable, Named};
 
 fn wide(x: u8) -> usize
     ensures { λ r. ⌜ (r ≡ x) × (r < 256) ⌝ }
@@ -17,16 +18,22 @@ fn wide(x: u8) -> usize
     x as usize
 }
 
+// A place of the table, as an index.
+fn place(x: u16) -> usize
+    ensures { λ r. ⌜ r ≡ x ⌝ }
+{
+    x as usize
+}
+
 // The phrase with a number, as a part of the wording; none where there is none.
-fn phrase_of(wording: &[u8], n: usize) -> &[u8]
-    requires { ⌜ now wording ≡ allWords ⌝ }
+fn phrase_of<'a>(wording: &'a [u8], places: &[u16; 97], n: usize) -> &'a [u8]
+    requires { ⌜ Lent (now wording) (now places) ⌝ }
     ensures { λ r. ⌜ Shown (now r) (phrase n) 110 ⌝ }
 {
-    if 112 <= n {
+    if 96 <= n {
         return &wording[..0];
     }
-    let places = tables::PHRASE_AT;
-    text::part(wording, places[n], places[n + 1])
+    text::part(wording, place(places[n]), place(places[n + 1]))
 }
 
 // The text with a number, as a part of the tree.
@@ -40,8 +47,15 @@ fn name_of<'a>(tree: &'a [u8], index: &[u64], x: usize) -> &'a [u8]
 }
 
 // The next piece of a text: a part of the tree or of the wording. 200 is the name, 201 and 202 are the words.
-fn piece<'a>(tree: &'a [u8], index: &[u64], wording: &'a [u8], p: Plan, part: usize) -> &'a [u8]
-    requires { ⌜ (now wording ≡ allWords) × (part ≡ aName → Readable (now tree) (now index) (p .name)) ⌝ }
+fn piece<'a>(
+    tree: &'a [u8],
+    index: &[u64],
+    wording: &'a [u8],
+    places: &[u16; 97],
+    p: Plan,
+    part: usize,
+) -> &'a [u8]
+    requires { ⌜ Lent (now wording) (now places) × (part ≡ aName → Readable (now tree) (now index) (p .name)) ⌝ }
     ensures { λ r. ⌜ Shown (now r) (pieceText (textsOf (now (tree .entry))) p part) (pieceRoom part) ⌝ }
 {
     let name = p.name;
@@ -51,84 +65,81 @@ fn piece<'a>(tree: &'a [u8], index: &[u64], wording: &'a [u8], p: Plan, part: us
         return name_of(tree, index, name);
     }
     if part == 201 {
-        return phrase_of(wording, word);
+        return phrase_of(wording, places, word);
     }
     if part == 202 {
-        return phrase_of(wording, other);
+        return phrase_of(wording, places, other);
     }
-    phrase_of(wording, part)
+    phrase_of(wording, places, part)
 }
 
-// n without its last d digits.
-fn shifted(n: u64, d: usize) -> u64
-    ensures { λ r. ⌜ r ≡ n / 10 ^ d ⌝ }
-{
-    let mut r = n;
-    let mut i = 0;
-    while i < d {
-        r /= 10;
-        i += 1;
-    }
-    r
-}
-
-// The digit of n that d digits stand behind: its piece.
-fn digit_of(wording: &[u8], n: u64, d: usize) -> &[u8]
-    requires { ⌜ now wording ≡ allWords ⌝ }
-    ensures { λ r. ⌜ now r ≡ digit n d ∷ [] ⌝ }
-{
-    let x = (shifted(n, d) % 10) as usize;
-    text::part(wording, x, x + 1)
-}
-
-// How many digits n has.
-fn places(n: u64) -> usize
-    ensures { λ r. ⌜ (r ≡ length (decimal n)) × (r ≤ 20) ⌝ }
-{
-    let mut k = 1;
-    let mut rest = n / 10;
-    while 0 < rest {
-        rest /= 10;
-        k += 1;
-    }
-    k
-}
-
-// Stores a byte where there is room.
-fn put(out: &mut [u8], n: usize, b: u8)
-    ensures { λ _. ⌜ now (out .exit) ≡ set (now (out .entry)) n b ⌝ }
-{
-    if n < out.len() {
-        out[n] = b;
-    }
-}
-
-// Stores a piece from n on, each byte where there is room.
-fn copy(out: &mut [u8], n: usize, s: &[u8]) -> usize
-    requires { ⌜ n + length (now s) < 18446744073709551616 ⌝ }
-    ensures { λ r. ⌜ Wrote (now (out .entry)) n (now (out .exit)) r (now (s .entry)) ⌝ }
+// Stores bytes from n on, where there is room for all of them.
+fn store(out: &mut [u8], n: usize, s: &[u8])
+    requires { ⌜ n + length (now s) ≤ length (now out) ⌝ }
+    ensures { λ _. ⌜ now (out .exit) ≡ sets (now (out .entry)) n (now (s .entry)) ⌝ }
 {
     let mut i = 0;
     while i < s.len() {
-        put(out, n + i, s[i]);
+        out[n + i] = s[i];
         i += 1;
     }
-    n + s.len()
 }
 
-// Stores a number in decimal, digit by digit.
-fn number(out: &mut [u8], n: usize, wording: &[u8], v: u64) -> usize
-    requires { ⌜ (now wording ≡ allWords) × (n < 4294967296) ⌝ }
+// Stores a piece from n on, as far as there is room.
+pub fn copy(out: &mut [u8], n: usize, s: &[u8]) -> usize
+    requires { ⌜ n + length (now s) < 18446744073709551616 ⌝ }
+    ensures { λ r. ⌜ Wrote (now (out .entry)) n (now (out .exit)) r (now (s .entry)) ⌝ }
+{
+    let end = n + s.len();
+    if end <= out.len() {
+        store(out, n, s);
+        return end;
+    }
+    if n < out.len() {
+        let room = out.len() - n;
+        store(out, n, &s[..room]);
+    }
+    end
+}
+
+// Stores the decimal of v up to a place; the answer is where it starts.
+fn digits(b: &mut [u8; 24], end: usize, v: u64) -> usize
+    requires { ⌜ (length (decimal v) ≤ end) × (end ≤ 24) × (length (now b) ≡ 24) ⌝ }
+    ensures { λ r. ⌜ Before (now (b .entry)) end (now (b .exit)) r (decimal v) ⌝ }
+{
+    let mut i = end - 1;
+    let mut rest = v;
+    while 9 < rest {
+        b[i] = (48 + rest % 10) as u8;
+        rest /= 10;
+        i -= 1;
+    }
+    b[i] = (48 + rest) as u8;
+    i
+}
+
+// Stores a number in decimal.
+pub fn number(out: &mut [u8], n: usize, v: u64) -> usize
+    requires { ⌜ n < 4294967296 ⌝ }
     ensures { λ r. ⌜ Said (now (out .entry)) n (now (out .exit)) r (decimal v) 20 ⌝ }
 {
-    let mut d = places(v);
-    let mut at = n;
-    while 0 < d {
-        d -= 1;
-        let p = digit_of(wording, v, d);
-        at = copy(out, at, p);
-    }
-    at
+    let mut b = [0u8; 24];
+    let i = digits(&mut b, 24, v);
+    copy(out, n, &b[i..])
+}
+
+// Stores the head of a line: the letter and the span.
+pub fn head(out: &mut [u8], n: usize, letter: u8, span: Span) -> usize
+    requires { ⌜ n < 4294967296 ⌝ }
+    ensures { λ r. ⌜ Said (now (out .entry)) n (now (out .exit)) r (headText letter span) 24 ⌝ }
+{
+    let mut b = [32u8; 24];
+    let e = digits(&mut b, 23, span.end as u64);
+    b[e - 1] = 32;
+    let s = digits(&mut b, e - 1, span.start as u64);
+    b[s - 1] = 32;
+    b[s - 2] = letter;
+    copy(out, n, &b[s - 2..])
 }
 
 // Stores a part of a plan. 203 to 205 are the numbers.
@@ -138,63 +149,50 @@ fn write_part<'a>(
     tree: &'a [u8],
     index: &[u64],
     wording: &'a [u8],
+    places: &[u16; 97],
     p: Plan,
     part: usize,
 ) -> usize
-    requires { ⌜ (now wording ≡ allWords) × (n < 4294967296) × (part ≡ aName → Readable (now tree) (now index) (p .name)) ⌝ }
+    requires { ⌜ Lent (now wording) (now places) × (n < 4294967296) × (part ≡ aName → Readable (now tree) (now index) (p .name)) ⌝ }
     ensures { λ r. ⌜ Said (now (out .entry)) n (now (out .exit)) r (partText (textsOf (now (tree .entry))) p part) (partRoom part) ⌝ }
 {
     if part == 203 {
-        return number(out, n, wording, p.first);
+        return number(out, n, p.first);
     }
     if part == 204 {
-        return number(out, n, wording, p.second);
+        return number(out, n, p.second);
     }
     if part == 205 {
-        return number(out, n, wording, p.third);
+        return number(out, n, p.third);
     }
-    let s = piece(tree, index, wording, p, part);
+    let s = piece(tree, index, wording, places, p, part);
     copy(out, n, s)
 }
 
-// The parts of a kind of plan; 255 is none.
-fn row_of(kind: usize) -> [u8; 9]
-    ensures { λ r. ⌜ ((k : ℕ) → k < 9 → getD r k 0 ≡ getD (rowAt kind) k noPart) ⌝ }
-{
-    if kind < 62 {
-        return tables::PLANS[kind];
-    }
-    [255; 9]
-}
-
-// Stores what a plan says, part by part.
-fn write_plan<'a>(
+// Stores what a plan says, part by part up to the first that is none.
+pub fn write<'a>(
     out: &mut [u8],
     n: usize,
     tree: &'a [u8],
     index: &[u64],
     wording: &'a [u8],
+    places: &[u16; 97],
     p: Plan,
 ) -> usize
-    requires { ⌜ (now wording ≡ allWords) × (n < 1073741824) × Named (now tree) (now index) p ⌝ }
+    requires { ⌜ Lent (now wording) (now places) × (n < 1073741824) × Named (now tree) (now index) p ⌝ }
     ensures { λ r. ⌜ Said (now (out .entry)) n (now (out .exit)) r (planText (textsOf (now (tree .entry))) p) (rowRoom (rowAt (p .kind))) ⌝ }
 {
     let kind = p.kind;
-    let row = row_of(kind);
+    let row = tables::row_of(kind);
     let mut at = n;
     let mut k = 0;
     while k < 9 {
         let part = wide(row[k]);
-        at = write_part(out, at, tree, index, wording, p, part);
+        if part == 255 {
+            return at;
+        }
+        at = write_part(out, at, tree, index, wording, places, p, part);
         k += 1;
     }
     at
-}
-
-// What a plan says, over the wording of the tables.
-pub fn write(out: &mut [u8], n: usize, tree: &[u8], index: &[u64], p: Plan) -> usize
-    requires { ⌜ (n < 1073741824) × Named (now tree) (now index) p ⌝ }
-    ensures { λ r. ⌜ Said (now (out .entry)) n (now (out .exit)) r (planText (textsOf (now (tree .entry))) p) (rowRoom (rowAt (p .kind))) ⌝ }
-{
-    write_plan(out, n, tree, index, &tables::WORDING, p)
 }

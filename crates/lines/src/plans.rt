@@ -12,9 +12,9 @@ use context::Number;
 use context::SymbolKind;
 ghost use mathlib.Core.Path.{_≡_};
 ghost use Prim.Native.Nat.{_<_, _+_};
-ghost use Rattle.lines.specs.Kinds.{typeWord, kindWord, expectedWord, letterWord, placeKind, numbered, worded, named, plain, operandPlan, qubitsPlan, planOf, notePlan};
+ghost use Rattle.lines.specs.Kinds.{typeWord, kindWord, expectedWord, letterByte, placeKind, numbered, worded, named, plain, operandPlan, qubitsPlan, planOf, notePlan};
 
-pub fn numbered(kind: usize, name: usize, first: u64, second: u64, third: u64) -> Plan
+fn numbered(kind: usize, name: usize, first: u64, second: u64, third: u64) -> Plan
     ensures { λ r. ⌜ r ≡ numbered kind name first second third ⌝ }
 {
     Plan {
@@ -48,21 +48,21 @@ fn named(kind: usize, name: usize) -> Plan
     numbered(kind, name, 0, 0, 0)
 }
 
-pub fn plain(kind: usize) -> Plan
+fn plain(kind: usize) -> Plan
     ensures { λ r. ⌜ r ≡ plain kind ⌝ }
 {
     named(kind, 0)
 }
 
 fn type_word(ty: ClassicalType) -> usize
-    ensures { λ r. ⌜ (r ≡ typeWord ty) × (r < 15) ⌝ }
+    ensures { λ r. ⌜ (r ≡ typeWord ty) × (r < 5) ⌝ }
 {
     match ty {
-        ClassicalType::Int => 10,
-        ClassicalType::UInt => 11,
-        ClassicalType::Float => 12,
-        ClassicalType::Angle => 13,
-        ClassicalType::Bool => 14,
+        ClassicalType::Int => 0,
+        ClassicalType::UInt => 1,
+        ClassicalType::Float => 2,
+        ClassicalType::Angle => 3,
+        ClassicalType::Bool => 4,
     }
 }
 
@@ -70,12 +70,12 @@ fn kind_word(kind: SymbolKind) -> usize
     ensures { λ r. ⌜ r ≡ kindWord kind ⌝ }
 {
     match kind {
-        SymbolKind::Qubit => 20,
-        SymbolKind::Bit => 21,
+        SymbolKind::Qubit => 10,
+        SymbolKind::Bit => 11,
         SymbolKind::Classical(ty) => type_word(ty),
         SymbolKind::Const(ty) => 5 + type_word(ty),
-        SymbolKind::GateParam => 22,
-        SymbolKind::GateQubit => 23,
+        SymbolKind::GateParam => 12,
+        SymbolKind::GateQubit => 13,
     }
 }
 
@@ -83,17 +83,17 @@ fn expected_word(expected: Expected) -> usize
     ensures { λ r. ⌜ r ≡ expectedWord expected ⌝ }
 {
     match expected {
-        Expected::Qubit => 20,
-        Expected::Bit => 21,
+        Expected::Qubit => 10,
+        Expected::Bit => 11,
     }
 }
 
-pub fn letter_word(severity: Severity) -> usize
-    ensures { λ r. ⌜ r ≡ letterWord severity ⌝ }
+pub fn letter_of(severity: Severity) -> u8
+    ensures { λ r. ⌜ r ≡ letterByte severity ⌝ }
 {
     match severity {
-        Severity::Error => 24,
-        Severity::Warning => 25,
+        Severity::Error => b'E',
+        Severity::Warning => b'W',
     }
 }
 

@@ -1,8 +1,12 @@
-// The wording of the listing, and where its phrases stand.
+// The wording of the listing, where its phrases stand, and the parts of each plan.
+ghost use mathlib.Core.Path.{_≡_};
+ghost use Prim.Native.Nat.{ℕ, _<_};
+ghost use lib.ListN.{getD};
+ghost use Rattle.lines.specs.Plans.{rowAt, noPart};
 
-// The phrases, one after the other: the digits, the words, and those of the messages.
-pub const WORDING: [u8; 1856] = *b"0123456789intuintfloatangleboolconst intconst uintconst float\
-    const angleconst boolqubitbitgate parametergate qubitE W N `` is already declared in this scope\
+// The phrases, one after the other: the words, and those of the messages.
+pub const WORDING: [u8; 1833] = *b"intuintfloatangleboolconst intconst uintconst float\
+    const angleconst boolqubitbitgate parametergate qubit`` is already declared in this scope\
     ` is not declaredexpected , but `` is a cannot index gate qubit `\
     ` \xe2\x80\x94 gate qubits are single wiresindex  is out of bounds for `` (size )cannot index `\
     ` \xe2\x80\x94 it is a single qubit/bit, not a registerslice :cannot slice scalar `use of qubit `[\
@@ -22,123 +26,107 @@ pub const WORDING: [u8; 1856] = *b"0123456789intuintfloatangleboolconst intconst
     unary negation requires a numeric operandarithmetic operators require numeric operands\
     comparison operands have incompatible types` first declared here` declared as  here` declared with size \
     ` declared without a size herequbit was measured here` defined herefirst defined here\
-    measurement target declared herefunction defined here \nlist ";
+    measurement target declared herefunction defined here";
 
 // Where each phrase starts, and where the last one ends.
-pub const PHRASE_AT: [usize; 113] = [
-    0, // 0
-    1, // 1
-    2, // 2
-    3, // 3
-    4, // 4
-    5, // 5
-    6, // 6
-    7, // 7
-    8, // 8
-    9, // 9
-    10, // int
-    13, // uint
-    17, // float
-    22, // angle
-    27, // bool
-    31, // const int
-    40, // const uint
-    50, // const float
-    61, // const angle
-    72, // const bool
-    82, // qubit
-    87, // bit
-    90, // gate parameter
-    104, // gate qubit
-    114, // E
-    116, // W
-    118, // N
-    120, // `
-    121, // ` is already declared in this scope
-    156, // ` is not declared
-    173, // expected
-    182, // , but `
-    189, // ` is a
-    196, // cannot index gate qubit `
-    221, // ` — gate qubits are single wires
-    255, // index
-    261, //  is out of bounds for `
-    284, // ` (size
-    292, // )
-    293, // cannot index `
-    307, // ` — it is a single qubit/bit, not a register
-    353, // slice
-    359, // :
-    360, // cannot slice scalar `
-    381, // use of qubit `
-    395, // [
-    396, // ]` after measurement
-    416, // ` after measurement — qubit state has collapsed and cannot be used in a gate without an explicit `reset`
-    522, // ]
-    523, // const `
-    530, // ` requires an initializer
-    555, // input `
-    562, // ` cannot have an initializer
-    590, // cannot initialize
-    608, //  `
-    610, // ` with
-    617, //  expression
-    628, // cannot assign
-    642, //  expression to
-    657, // compound assignment requires numeric operands
-    702, // cannot assign to const `
-    726, // ` is not an assignable classical variable
-    767, // gate `
-    773, // ` expects
-    783, //  parameter(s), got
-    802, //  qubit(s) after modifiers, got
-    833, // ` is not defined
-    849, // gate parameters must be numeric
-    880, // gate register operands must have the same length for broadcasting
-    945, // ` is already defined
-    965, // function `
-    975, // ` returns
-    985, // , but its body has type
-    1009, // measurement source has
-    1032, //  qubit(s), but target has
-    1058, //  bit(s)
-    1065, // qubit `
-    1072, // ` has already been measured
-    1099, // delay duration must be numeric
-    1129, // for-loop variable must have type int
-    1165, // control count must be a positive compile-time integer
-    1218, // power modifier argument must be numeric
-    1257, // if condition
-    1269, //  must have type
-    1285, // , found
-    1293, // while condition
-    1308, // for-loop range bound
-    1328, // for-loop range step
-    1347, // control modifier argument
-    1372, // ` cannot be used as a classical expression
-    1414, // cannot index scalar bit `
-    1439, // ` is not an indexable classical register
-    1479, //  argument(s), got
-    1497, // argument
-    1506, //  to `
-    1511, // ` must be
-    1521, // unary negation requires a numeric operand
-    1562, // arithmetic operators require numeric operands
-    1607, // comparison operands have incompatible types
-    1650, // ` first declared here
-    1671, // ` declared as
-    1685, //  here
-    1690, // ` declared with size
-    1711, // ` declared without a size here
-    1741, // qubit was measured here
-    1764, // ` defined here
-    1778, // first defined here
-    1796, // measurement target declared here
-    1828, // function defined here
-    1849, // a space
-    1850, // byte 10
-    1851, // list
-    1856,
+pub const PHRASE_AT: [u16; 97] = [
+    0, // int
+    3, // uint
+    7, // float
+    12, // angle
+    17, // bool
+    21, // const int
+    30, // const uint
+    40, // const float
+    51, // const angle
+    62, // const bool
+    72, // qubit
+    77, // bit
+    80, // gate parameter
+    94, // gate qubit
+    104, // `
+    105, // ` is already declared in this scope
+    140, // ` is not declared
+    157, // expected
+    166, // , but `
+    173, // ` is a
+    180, // cannot index gate qubit `
+    205, // ` — gate qubits are single wires
+    239, // index
+    245, //  is out of bounds for `
+    268, // ` (size
+    276, // )
+    277, // cannot index `
+    291, // ` — it is a single qubit/bit, not a register
+    337, // slice
+    343, // :
+    344, // cannot slice scalar `
+    365, // use of qubit `
+    379, // [
+    380, // ]` after measurement
+    400, // ` after measurement — qubit state has collapsed and cannot be used in a gate without an explicit `reset`
+    506, // ]
+    507, // const `
+    514, // ` requires an initializer
+    539, // input `
+    546, // ` cannot have an initializer
+    574, // cannot initialize
+    592, //  `
+    594, // ` with
+    601, //  expression
+    612, // cannot assign
+    626, //  expression to
+    641, // compound assignment requires numeric operands
+    686, // cannot assign to const `
+    710, // ` is not an assignable classical variable
+    751, // gate `
+    757, // ` expects
+    767, //  parameter(s), got
+    786, //  qubit(s) after modifiers, got
+    817, // ` is not defined
+    833, // gate parameters must be numeric
+    864, // gate register operands must have the same length for broadcasting
+    929, // ` is already defined
+    949, // function `
+    959, // ` returns
+    969, // , but its body has type
+    993, // measurement source has
+    1016, //  qubit(s), but target has
+    1042, //  bit(s)
+    1049, // qubit `
+    1056, // ` has already been measured
+    1083, // delay duration must be numeric
+    1113, // for-loop variable must have type int
+    1149, // control count must be a positive compile-time integer
+    1202, // power modifier argument must be numeric
+    1241, // if condition
+    1253, //  must have type
+    1269, // , found
+    1277, // while condition
+    1292, // for-loop range bound
+    1312, // for-loop range step
+    1331, // control modifier argument
+    1356, // ` cannot be used as a classical expression
+    1398, // cannot index scalar bit `
+    1423, // ` is not an indexable classical register
+    1463, //  argument(s), got
+    1481, // argument
+    1490, //  to `
+    1495, // ` must be
+    1505, // unary negation requires a numeric operand
+    1546, // arithmetic operators require numeric operands
+    1591, // comparison operands have incompatible types
+    1634, // ` first declared here
+    1655, // ` declared as
+    1669, //  here
+    1674, // ` declared with size
+    1695, // ` declared without a size here
+    1725, // qubit was measured here
+    1748, // ` defined here
+    1762, // first defined here
+    1780, // measurement target declared here
+    1812, // function defined here
+    1833,
 ];
 
 // The parts of a plan that are no phrase.
@@ -156,68 +144,70 @@ const THIRD: u8 = 205;
 
 const NONE: u8 = 255;
 
-// The plans, by kind: the parts of each, a phrase by its number. The kinds are those of specs/Kinds.antt.
-pub const PLANS: [[u8; 9]; 62] = [
-    [27, NAME, 28, NONE, NONE, NONE, NONE, NONE, NONE], // 0: alreadyDeclared
-    [27, NAME, 29, NONE, NONE, NONE, NONE, NONE, NONE], // 1: notDeclared
-    [30, WORD, 31, NAME, 32, OTHER, NONE, NONE, NONE], // 2: expectedKind
-    [33, NAME, 34, NONE, NONE, NONE, NONE, NONE, NONE], // 3: cannotIndexGateQubit
-    [35, FIRST, 36, NAME, 37, SECOND, 38, NONE, NONE], // 4: indexOutOfBounds
-    [39, NAME, 40, NONE, NONE, NONE, NONE, NONE, NONE], // 5: cannotIndex
-    [41, FIRST, 42, SECOND, 36, NAME, 37, THIRD, 38], // 6: sliceOutOfBounds
-    [43, NAME, 27, NONE, NONE, NONE, NONE, NONE, NONE], // 7: cannotSlice
-    [44, NAME, 45, FIRST, 46, NONE, NONE, NONE, NONE], // 8: usedIndex
-    [44, NAME, 47, NONE, NONE, NONE, NONE, NONE, NONE], // 9: used, whole
-    [44, NAME, 45, FIRST, 48, 47, NONE, NONE, NONE], // 10: used, index
-    [44, NAME, 45, FIRST, 42, SECOND, 48, 47, NONE], // 11: used, slice
-    [49, NAME, 50, NONE, NONE, NONE, NONE, NONE, NONE], // 12: constWithoutInit
-    [51, NAME, 52, NONE, NONE, NONE, NONE, NONE, NONE], // 13: inputWithInit
-    [53, WORD, 54, NAME, 55, OTHER, 56, NONE, NONE], // 14: cannotInitialize
-    [57, WORD, 58, OTHER, 54, NAME, 27, NONE, NONE], // 15: cannotAssign
-    [59, NONE, NONE, NONE, NONE, NONE, NONE, NONE, NONE], // 16: compoundNumeric
-    [60, NAME, 27, NONE, NONE, NONE, NONE, NONE, NONE], // 17: assignToConst
-    [27, NAME, 61, NONE, NONE, NONE, NONE, NONE, NONE], // 18: notAssignable
-    [62, NAME, 63, FIRST, 64, SECOND, NONE, NONE, NONE], // 19: gateParams
-    [62, NAME, 63, FIRST, 65, SECOND, NONE, NONE, NONE], // 20: gateQubits
-    [62, NAME, 63, FIRST, SECOND, 65, THIRD, NONE, NONE], // 21: gateQubits, in two parts
-    [62, NAME, 66, NONE, NONE, NONE, NONE, NONE, NONE], // 22: gateNotDefined
-    [67, NONE, NONE, NONE, NONE, NONE, NONE, NONE, NONE], // 23: paramsNumeric
-    [68, NONE, NONE, NONE, NONE, NONE, NONE, NONE, NONE], // 24: broadcasting
-    [62, NAME, 69, NONE, NONE, NONE, NONE, NONE, NONE], // 25: gateAlreadyDefined
-    [70, NAME, 69, NONE, NONE, NONE, NONE, NONE, NONE], // 26: functionAlreadyDefined
-    [70, NAME, 71, WORD, 72, OTHER, NONE, NONE, NONE], // 27: functionReturns
-    [73, FIRST, 74, SECOND, 75, NONE, NONE, NONE, NONE], // 28: measurementWidths
-    [76, NAME, 77, NONE, NONE, NONE, NONE, NONE, NONE], // 29: alreadyMeasured, whole
-    [76, NAME, 45, FIRST, 48, 77, NONE, NONE, NONE], // 30: alreadyMeasured, index
-    [76, NAME, 45, FIRST, 42, SECOND, 48, 77, NONE], // 31: alreadyMeasured, slice
-    [78, NONE, NONE, NONE, NONE, NONE, NONE, NONE, NONE], // 32: delayNumeric
-    [79, NONE, NONE, NONE, NONE, NONE, NONE, NONE, NONE], // 33: forVariable
-    [80, NONE, NONE, NONE, NONE, NONE, NONE, NONE, NONE], // 34: controlCount
-    [81, NONE, NONE, NONE, NONE, NONE, NONE, NONE, NONE], // 35: powerNumeric
-    [82, 83, WORD, 84, OTHER, NONE, NONE, NONE, NONE], // 36: mustHaveType, ifCondition
-    [85, 83, WORD, 84, OTHER, NONE, NONE, NONE, NONE], // 37: mustHaveType, whileCondition
-    [86, 83, WORD, 84, OTHER, NONE, NONE, NONE, NONE], // 38: mustHaveType, rangeBound
-    [87, 83, WORD, 84, OTHER, NONE, NONE, NONE, NONE], // 39: mustHaveType, rangeStep
-    [88, 83, WORD, 84, OTHER, NONE, NONE, NONE, NONE], // 40: mustHaveType, controlArgument
-    [27, NAME, 89, NONE, NONE, NONE, NONE, NONE, NONE], // 41: notClassical
-    [90, NAME, 27, NONE, NONE, NONE, NONE, NONE, NONE], // 42: cannotIndexBit
-    [27, NAME, 91, NONE, NONE, NONE, NONE, NONE, NONE], // 43: notIndexable
-    [70, NAME, 66, NONE, NONE, NONE, NONE, NONE, NONE], // 44: functionNotDefined
-    [70, NAME, 63, FIRST, 92, SECOND, NONE, NONE, NONE], // 45: functionArguments
-    [93, FIRST, 94, NAME, 95, WORD, 84, OTHER, NONE], // 46: argumentType
-    [96, NONE, NONE, NONE, NONE, NONE, NONE, NONE, NONE], // 47: negationNumeric
-    [97, NONE, NONE, NONE, NONE, NONE, NONE, NONE, NONE], // 48: arithmeticNumeric
-    [98, NONE, NONE, NONE, NONE, NONE, NONE, NONE, NONE], // 49: comparisonTypes
-    [27, NAME, 99, NONE, NONE, NONE, NONE, NONE, NONE], // 50: firstDeclared
-    [27, NAME, 100, WORD, 101, NONE, NONE, NONE, NONE], // 51: declaredAs
-    [27, NAME, 102, FIRST, 101, NONE, NONE, NONE, NONE], // 52: declaredWithSize
-    [27, NAME, 103, NONE, NONE, NONE, NONE, NONE, NONE], // 53: declaredWithoutSize
-    [104, NONE, NONE, NONE, NONE, NONE, NONE, NONE, NONE], // 54: measuredHere
-    [27, NAME, 105, NONE, NONE, NONE, NONE, NONE, NONE], // 55: definedHere
-    [106, NONE, NONE, NONE, NONE, NONE, NONE, NONE, NONE], // 56: firstDefined
-    [107, NONE, NONE, NONE, NONE, NONE, NONE, NONE, NONE], // 57: targetDeclared
-    [108, NONE, NONE, NONE, NONE, NONE, NONE, NONE, NONE], // 58: functionDefined
-    [WORD, FIRST, 109, SECOND, 109, NONE, NONE, NONE, NONE], // 59: the head of a line
-    [110, NONE, NONE, NONE, NONE, NONE, NONE, NONE, NONE], // 60: the end of a line
-    [111, FIRST, 109, SECOND, 110, NONE, NONE, NONE, NONE], // 61: the first line
-];
+// The parts of a kind of plan, a phrase by its number. The kinds are those of specs/Kinds.antt.
+pub fn row_of(kind: usize) -> [u8; 9]
+    ensures { λ r. ⌜ ((k : ℕ) → k < 9 → getD r k 0 ≡ getD (rowAt kind) k noPart) ⌝ }
+{
+    match kind {
+        0 => [14, NAME, 15, NONE, NONE, NONE, NONE, NONE, NONE], // alreadyDeclared
+        1 => [14, NAME, 16, NONE, NONE, NONE, NONE, NONE, NONE], // notDeclared
+        2 => [17, WORD, 18, NAME, 19, OTHER, NONE, NONE, NONE], // expectedKind
+        3 => [20, NAME, 21, NONE, NONE, NONE, NONE, NONE, NONE], // cannotIndexGateQubit
+        4 => [22, FIRST, 23, NAME, 24, SECOND, 25, NONE, NONE], // indexOutOfBounds
+        5 => [26, NAME, 27, NONE, NONE, NONE, NONE, NONE, NONE], // cannotIndex
+        6 => [28, FIRST, 29, SECOND, 23, NAME, 24, THIRD, 25], // sliceOutOfBounds
+        7 => [30, NAME, 14, NONE, NONE, NONE, NONE, NONE, NONE], // cannotSlice
+        8 => [31, NAME, 32, FIRST, 33, NONE, NONE, NONE, NONE], // usedIndex
+        9 => [31, NAME, 34, NONE, NONE, NONE, NONE, NONE, NONE], // used, whole
+        10 => [31, NAME, 32, FIRST, 35, 34, NONE, NONE, NONE], // used, index
+        11 => [31, NAME, 32, FIRST, 29, SECOND, 35, 34, NONE], // used, slice
+        12 => [36, NAME, 37, NONE, NONE, NONE, NONE, NONE, NONE], // constWithoutInit
+        13 => [38, NAME, 39, NONE, NONE, NONE, NONE, NONE, NONE], // inputWithInit
+        14 => [40, WORD, 41, NAME, 42, OTHER, 43, NONE, NONE], // cannotInitialize
+        15 => [44, WORD, 45, OTHER, 41, NAME, 14, NONE, NONE], // cannotAssign
+        16 => [46, NONE, NONE, NONE, NONE, NONE, NONE, NONE, NONE], // compoundNumeric
+        17 => [47, NAME, 14, NONE, NONE, NONE, NONE, NONE, NONE], // assignToConst
+        18 => [14, NAME, 48, NONE, NONE, NONE, NONE, NONE, NONE], // notAssignable
+        19 => [49, NAME, 50, FIRST, 51, SECOND, NONE, NONE, NONE], // gateParams
+        20 => [49, NAME, 50, FIRST, 52, SECOND, NONE, NONE, NONE], // gateQubits
+        21 => [49, NAME, 50, FIRST, SECOND, 52, THIRD, NONE, NONE], // gateQubits, in two parts
+        22 => [49, NAME, 53, NONE, NONE, NONE, NONE, NONE, NONE], // gateNotDefined
+        23 => [54, NONE, NONE, NONE, NONE, NONE, NONE, NONE, NONE], // paramsNumeric
+        24 => [55, NONE, NONE, NONE, NONE, NONE, NONE, NONE, NONE], // broadcasting
+        25 => [49, NAME, 56, NONE, NONE, NONE, NONE, NONE, NONE], // gateAlreadyDefined
+        26 => [57, NAME, 56, NONE, NONE, NONE, NONE, NONE, NONE], // functionAlreadyDefined
+        27 => [57, NAME, 58, WORD, 59, OTHER, NONE, NONE, NONE], // functionReturns
+        28 => [60, FIRST, 61, SECOND, 62, NONE, NONE, NONE, NONE], // measurementWidths
+        29 => [63, NAME, 64, NONE, NONE, NONE, NONE, NONE, NONE], // alreadyMeasured, whole
+        30 => [63, NAME, 32, FIRST, 35, 64, NONE, NONE, NONE], // alreadyMeasured, index
+        31 => [63, NAME, 32, FIRST, 29, SECOND, 35, 64, NONE], // alreadyMeasured, slice
+        32 => [65, NONE, NONE, NONE, NONE, NONE, NONE, NONE, NONE], // delayNumeric
+        33 => [66, NONE, NONE, NONE, NONE, NONE, NONE, NONE, NONE], // forVariable
+        34 => [67, NONE, NONE, NONE, NONE, NONE, NONE, NONE, NONE], // controlCount
+        35 => [68, NONE, NONE, NONE, NONE, NONE, NONE, NONE, NONE], // powerNumeric
+        36 => [69, 70, WORD, 71, OTHER, NONE, NONE, NONE, NONE], // mustHaveType, ifCondition
+        37 => [72, 70, WORD, 71, OTHER, NONE, NONE, NONE, NONE], // mustHaveType, whileCondition
+        38 => [73, 70, WORD, 71, OTHER, NONE, NONE, NONE, NONE], // mustHaveType, rangeBound
+        39 => [74, 70, WORD, 71, OTHER, NONE, NONE, NONE, NONE], // mustHaveType, rangeStep
+        40 => [75, 70, WORD, 71, OTHER, NONE, NONE, NONE, NONE], // mustHaveType, controlArgument
+        41 => [14, NAME, 76, NONE, NONE, NONE, NONE, NONE, NONE], // notClassical
+        42 => [77, NAME, 14, NONE, NONE, NONE, NONE, NONE, NONE], // cannotIndexBit
+        43 => [14, NAME, 78, NONE, NONE, NONE, NONE, NONE, NONE], // notIndexable
+        44 => [57, NAME, 53, NONE, NONE, NONE, NONE, NONE, NONE], // functionNotDefined
+        45 => [57, NAME, 50, FIRST, 79, SECOND, NONE, NONE, NONE], // functionArguments
+        46 => [80, FIRST, 81, NAME, 82, WORD, 71, OTHER, NONE], // argumentType
+        47 => [83, NONE, NONE, NONE, NONE, NONE, NONE, NONE, NONE], // negationNumeric
+        48 => [84, NONE, NONE, NONE, NONE, NONE, NONE, NONE, NONE], // arithmeticNumeric
+        49 => [85, NONE, NONE, NONE, NONE, NONE, NONE, NONE, NONE], // comparisonTypes
+        50 => [14, NAME, 86, NONE, NONE, NONE, NONE, NONE, NONE], // firstDeclared
+        51 => [14, NAME, 87, WORD, 88, NONE, NONE, NONE, NONE], // declaredAs
+        52 => [14, NAME, 89, FIRST, 88, NONE, NONE, NONE, NONE], // declaredWithSize
+        53 => [14, NAME, 90, NONE, NONE, NONE, NONE, NONE, NONE], // declaredWithoutSize
+        54 => [91, NONE, NONE, NONE, NONE, NONE, NONE, NONE, NONE], // measuredHere
+        55 => [14, NAME, 92, NONE, NONE, NONE, NONE, NONE, NONE], // definedHere
+        56 => [93, NONE, NONE, NONE, NONE, NONE, NONE, NONE, NONE], // firstDefined
+        57 => [94, NONE, NONE, NONE, NONE, NONE, NONE, NONE, NONE], // targetDeclared
+        58 => [95, NONE, NONE, NONE, NONE, NONE, NONE, NONE, NONE], // functionDefined
+        _ => [NONE; 9],
+    }
+}

@@ -1,46 +1,24 @@
--- `lines::pieces::copy` meets its contract. The invariant: the rest of s is still to be stored. Assumes nothing.
-use Prim.Native.Nat.{_≤_, _+_, _-_}
-use mathlib.Core.Path.{_≡_, refl, ap, _∙_}
+-- `lines::pieces::copy` meets its contract. Assumes nothing.
+use mathlib.Core.Path.{refl, sym, _∙_}
 use native.Mathlib.Omega.{arith}
-use native.Mathlib.Nat.{add-zero, add-assoc}
 use borrow.Author.Needs.{needs}
-use lib.ListN.{length, drop, length-set}
-use lib.Seq.{drop-length}
-use Rattle.lines.proofs.Sink.{Left, left-all, left-put, left-none}
+use Prim.Native.Nat.{_-_}
+use lib.ListN.{length}
+use lib.Seq.{length-take-le}
+use Rattle.lines.proofs.Sink.{sets-cut}
 use Rattle.lines.proofs.pieces.copy.Statement.{statement}
 use Rattle.lines.proofs.pieces.copy.Tie as tie
 
-abbrev Inv-loop : tie.InvT-loop
-Inv-loop out₀ n s i₀ out i = (i ≤ length s) × (length out ≡ length out₀) × Left out₀ n s out (n + i) (drop i s)
-
-abbrev μ-loop : tie.MeasureT-loop
-μ-loop out₀ n s i₀ out i = length s - i
-
-loop-again : tie.Need-loop-again Inv-loop μ-loop
-loop-again c =
-    let u = c .before .before .before .before .before .before in
-    let a = u .before .before .before .args in
-    let e = c .before .before .put .ensures in
-    (omega arith, ap length e ∙ simp length-set (u .loop .inv .1), rw (← add-assoc (a .n) (u .loop .i) 1) (left-put (a .s .now) (u .loop .i) _ (u .loop .inv .2) (omega arith) e))
-
-returns : tie.Need-returns Inv-loop μ-loop
-returns c =
-    let u = c .before in
-    let a = u .before .before .before .args in
-    let z : u .loop .i ≡ length (a .s .now) = omega arith in
-    let l = rw (z, drop-length (a .s .now)) at (u .loop .inv .2) in
-    record { holds = left-none l .holds; after = refl }
-
 pub copy-spec : {M : Type 1} → statement M
 copy-spec =
-    tie.close (tie.spec Inv-loop μ-loop
-    (λ c. (omega arith, refl, rw (add-zero (c .before .before .args .n)) (left-all _ _ _)))  -- loop-holds
-    (λ c. search needs)  -- add-put
-    (λ c. search needs)  -- shared-slice-read-put
-    (λ c κs. search needs)  -- put-requires
-    (λ c. search needs)  -- add-i
-    (λ c. search needs)  -- loop-less
-    loop-again
-    (λ c. search needs)  -- add-result
+    tie.close (tie.spec
+    (λ c. search needs)  -- add-end
+    (λ c κs. search needs)  -- store-requires
     (λ c. search needs)  -- same-length
-    returns)
+    (λ c. record { holds = c .before .before .store .ensures; after = refl })  -- returns
+    (λ c. search needs)  -- sub-room
+    (λ c. sym (length-take-le _ _ (omega arith)))  -- slice-aggregate-store
+    (λ c κs. let a = c .before .before .before .before .before .before .args in omega (arith, length-take-le (length (a .out .now) - a .n) (a .s .now) (omega arith)))  -- store-requires-2
+    (λ c. search needs)  -- same-length-2
+    (λ c. let a = c .before .before .before .before .before .before .before .before .before .args in record { holds = c .before .before .store2 .ensures ∙ sets-cut (a .s .now) (a .out .now) (a .n) (length (a .out .now) - a .n) (omega arith); after = refl })  -- returns-2
+    (λ c. let a = c .before .before .before .before .args in record { holds = sets-cut (a .s .now) (a .out .now) (a .n) 0 (omega arith); after = refl }))  -- returns-3
