@@ -65,19 +65,19 @@ fn index_head(x: usize) -> u64
     2 * (x as u64) + 1
 }
 
-fn place_of(sheet: [u16; 256], index: &[u64], count: usize, head: u64, i: u64) -> u16
+fn place_of(sheet: &[u16; 256], index: &[u64], count: usize, head: u64, i: u64) -> u16
     requires { ⌜ Indexed (now index) count ⌝ }
-    ensures { λ r. ⌜ r ≡ placeIn (keysIn (now (index .entry)) count) sheet (keyBy head i) ⌝ }
+    ensures { λ r. ⌜ r ≡ placeIn (keysIn (now (index .entry)) count) (now (sheet .entry)) (keyBy head i) ⌝ }
 {
     let k = find(index, count, head, i);
     if k < count { sheet[k] } else { 0 }
 }
 
 // The place of the mark that covers a name, or an index of it; 0 where there is none.
-pub fn lookup(sheet: [u16; 256], index: &[u64], count: usize, x: usize, i: Number) -> u16
+pub fn lookup(sheet: &[u16; 256], index: &[u64], count: usize, x: usize, i: Number) -> u16
     requires { ⌜ Indexed (now index) count ⌝ }
     requires { ⌜ x < 256 ⌝ }
-    ensures { λ r. ⌜ r ≡ lookupIn (keysIn (now (index .entry)) count) sheet x (numberOf i) ⌝ }
+    ensures { λ r. ⌜ r ≡ lookupIn (keysIn (now (index .entry)) count) (now (sheet .entry)) x (numberOf i) ⌝ }
 {
     match i {
         Number::Some(j) => {
@@ -156,9 +156,9 @@ fn offered(best: Covered, x: usize, a: u64, b: u64, head: u64, i: u64, place: u1
 }
 
 // The smallest index of a slice whose own key is marked.
-fn least(sheet: [u16; 256], index: &[u64], count: usize, x: usize, a: u64, b: u64) -> Covered
+fn least(sheet: &[u16; 256], index: &[u64], count: usize, x: usize, a: u64, b: u64) -> Covered
     requires { ⌜ Indexed (now index) count ⌝ }
-    ensures { λ r. ⌜ r ≡ leastIn x (a, b) (keysIn (now (index .entry)) count) sheet ⌝ }
+    ensures { λ r. ⌜ r ≡ leastIn x (a, b) (keysIn (now (index .entry)) count) (now (sheet .entry)) ⌝ }
 {
     let mut best = Covered::None;
     let mut k = count;
@@ -178,10 +178,17 @@ fn least(sheet: [u16; 256], index: &[u64], count: usize, x: usize, a: u64, b: u6
 }
 
 // The smallest index of a slice that a mark covers.
-pub fn smallest(sheet: [u16; 256], index: &[u64], count: usize, x: usize, a: u64, b: u64) -> Covered
+pub fn smallest(
+    sheet: &[u16; 256],
+    index: &[u64],
+    count: usize,
+    x: usize,
+    a: u64,
+    b: u64,
+) -> Covered
     requires { ⌜ Indexed (now index) count ⌝ }
     requires { ⌜ x < 256 ⌝ }
-    ensures { λ r. ⌜ r ≡ smallestIn (keysIn (now (index .entry)) count) sheet x (a, b) ⌝ }
+    ensures { λ r. ⌜ r ≡ smallestIn (keysIn (now (index .entry)) count) (now (sheet .entry)) x (a, b) ⌝ }
 {
     if b < a {
         return Covered::None;

@@ -5,10 +5,10 @@ use Rattle.sheet.proofs.least.Statement.{statement}
 use Rattle.sheet.proofs.least.Tie as tie
 
 abbrev Inv-loop : tie.InvT-loop
-Inv-loop index count x a b sheet best₀ k₀ best k = Comparing index count x a b sheet best k
+Inv-loop sheet index count x a b best₀ k₀ best k = Comparing index count x a b sheet best k
 
 abbrev μ-loop : tie.MeasureT-loop
-μ-loop index count x a b sheet best₀ k₀ best k = k
+μ-loop sheet index count x a b best₀ k₀ best k = k
 
 pub least-spec : {M : Type 1} → statement M
 least-spec =
