@@ -16,16 +16,7 @@ least-spec =
     (λ c. search comparing)  -- loop-holds
     (λ c. search needs)  -- sub-k
     (λ c. search needs)  -- mul-offered
-    (λ c. search needs)  -- add-offered
-    (λ c. search needs)  -- mul-offered-2
-    (λ c. search needs)  -- shared-slice-read-offered
-    (λ c. search needs)  -- mul-offered-3
-    (λ c. search needs)  -- add-offered-2
-    (λ c. search needs)  -- add-offered-3
-    (λ c. search needs)  -- mul-offered-4
-    (λ c. search needs)  -- shared-slice-read-offered-2
-    (λ c. search needs)  -- mul-offered-5
-    (λ c. search needs)  -- array-read-offered
+    (λ c. search needs)  -- element-copy-out-offered
     (λ c κs. search needs)  -- offered-requires
     (λ c. search needs)  -- loop-less
     (λ c. search comparing)  -- loop-again
