@@ -76,7 +76,7 @@ fn measure(tree: &[u8], index: &mut [u64], scratch: &[u8], left: usize, k: Keys)
     let o = operand_at(tree, at + 1);
     let op = o.operand;
     let size = size_of(scratch, 9 - left, op.name);
-    let count = sheet::add_measured(index, k.count, op, size);
+    let count = sheet::new_keys::add_measured(index, k.count, op, size);
     Keys {
         at: skip_stmt(tree, at, left),
         count,

@@ -25,8 +25,8 @@ use Rattle.lines.specs.declared.Note.{Note}
 use Rattle.lines.specs.declared.Diagnostic.{Diagnostic}
 use Rattle.lines.specs.Values.{errorWithNoteOf, Reported}
 use Rattle.sheet.specs.declared.Covered.{Covered}
-use Rattle.sheet.specs.Sheet.{first, lookupIn, leastIn, byWhole, smallestIn, coveredOf, Distinct}
-use Rattle.sheet.specs.Places.{by-test, lookup-marks}
+use Rattle.sheet.specs.Sheet.{lookupIn, leastIn, byWhole, smallestIn, coveredOf, Distinct}
+use Rattle.sheet.specs.Places.{by-test, first-pos, lookup-marks}
 use Rattle.sheet.specs.Smallest.{IsLeast, least-is, smallest-marks}
 use Rattle.sheet.specs.Kept.{lookup-placed, smallest-placed}
 use Rattle.accepted.specs.Cases.{blankOperand}
@@ -84,16 +84,12 @@ unfolding IsLeast
 least-place own a b Covered.None h = tt
 least-place own a b (Covered.At i p) h = h .2
 
-first-place : (p q : ℕ) → 0 < q → 0 < first p q
-first-place zero q h = h
-first-place (suc p) q h = omega arith
-
 module _ (ks : List Key) (sheet : List ℕ) (x a b : ℕ) where
   whole-place : (w : ℕ) → placeIn ks sheet (key x none) ≡ w → Distinct ks
       → HasPlace (byWhole w (leastIn x (a, b) ks sheet) (Covered.At a (lookupIn ks sheet x (some a))))
   unfolding lookupIn
   whole-place zero e d = least-place _ a b _ (least-is x a b ks sheet d)
-  whole-place (suc w) e d = first-place (placeIn ks sheet (key x (some a))) (placeIn ks sheet (key x none)) (omega arith)
+  whole-place (suc w) e d = first-pos (placeIn ks sheet (key x (some a))) (placeIn ks sheet (key x none)) (omega arith)
 
   smallest-place : Distinct ks → HasPlace (smallestIn ks sheet x (a, b))
   unfolding smallestIn

@@ -120,13 +120,13 @@ pub fn check_use_after_measure(
     index: &[u64],
     out: &mut [u8],
     keys: usize,
-    marks: [u16; 256],
+    marks: &[u16; 256],
     op: GateOperand,
     span: Span,
     sink: Sink,
 ) -> Sink
-    requires { ⌜ TextsAt (now tree) (now index) × Indexed (now index) keys × Distinct (keysIn (now index) keys) × Placed (now tree) marks × (op .name < length (textsOf (now tree))) × SinkFits sink ⌝ }
-    ensures { λ r. ⌜ Emitted (textsOf (now (tree .entry))) (checkUseAfterMeasure (marksOf (now (tree .entry)) (keysIn (now (index .entry)) keys) marks) (operandOf op) span) sink (now (out .entry)) r (now (out .exit)) ⌝ }
+    requires { ⌜ TextsAt (now tree) (now index) × Indexed (now index) keys × Distinct (keysIn (now index) keys) × Placed (now tree) (now marks) × (op .name < length (textsOf (now tree))) × SinkFits sink ⌝ }
+    ensures { λ r. ⌜ Emitted (textsOf (now (tree .entry))) (checkUseAfterMeasure (marksOf (now (tree .entry)) (keysIn (now (index .entry)) keys) (now (marks .entry))) (operandOf op) span) sink (now (out .entry)) r (now (out .exit)) ⌝ }
 {
     let slice = op.slice;
     if let Ends::Some(a, b) = slice {
@@ -155,13 +155,13 @@ fn use_operand(
     out: &mut [u8],
     depth: usize,
     keys: usize,
-    marks: [u16; 256],
+    marks: &[u16; 256],
     op: GateOperand,
     span: Span,
     sink: Sink,
 ) -> Sink
-    requires { ⌜ TextsAt (now tree) (now index) × (65536 ≤ length (now scratch)) × (depth ≤ 9) × Indexed (now index) keys × Distinct (keysIn (now index) keys) × Placed (now tree) marks × (op .name < length (textsOf (now tree))) × SinkFits sink ⌝ }
-    ensures { λ r. ⌜ Emitted (textsOf (now (tree .entry))) (checkOperand (scopesOf (now (scratch .entry)) depth) (operandOf op) aQubit ++ checkUseAfterMeasure (marksOf (now (tree .entry)) (keysIn (now (index .entry)) keys) marks) (operandOf op) span) sink (now (out .entry)) r (now (out .exit)) ⌝ }
+    requires { ⌜ TextsAt (now tree) (now index) × (65536 ≤ length (now scratch)) × (depth ≤ 9) × Indexed (now index) keys × Distinct (keysIn (now index) keys) × Placed (now tree) (now marks) × (op .name < length (textsOf (now tree))) × SinkFits sink ⌝ }
+    ensures { λ r. ⌜ Emitted (textsOf (now (tree .entry))) (checkOperand (scopesOf (now (scratch .entry)) depth) (operandOf op) aQubit ++ checkUseAfterMeasure (marksOf (now (tree .entry)) (keysIn (now (index .entry)) keys) (now (marks .entry))) (operandOf op) span) sink (now (out .entry)) r (now (out .exit)) ⌝ }
 {
     let s = check_operand(tree, index, scratch, out, depth, op, Expected::Qubit, sink);
     check_use_after_measure(tree, index, out, keys, marks, op, span, s)
@@ -175,13 +175,13 @@ pub fn use_operands(
     out: &mut [u8],
     depth: usize,
     keys: usize,
-    marks: [u16; 256],
+    marks: &[u16; 256],
     at: usize,
     span: Span,
     sink: Sink,
 ) -> Sink
-    requires { ⌜ TextsAt (now tree) (now index) × (65536 ≤ length (now scratch)) × (depth ≤ 9) × Indexed (now index) keys × Distinct (keysIn (now index) keys) × Placed (now tree) marks × IsOk (vec (operand (textsOf (now tree))) (now tree) at) × SinkFits sink ⌝ }
-    ensures { λ r. ⌜ Emitted (textsOf (now (tree .entry))) (given [] (useOperands (scopesOf (now (scratch .entry)) depth) (marksOf (now (tree .entry)) (keysIn (now (index .entry)) keys) marks) span) (vec (operand (textsOf (now (tree .entry)))) (now (tree .entry)) at)) sink (now (out .entry)) r (now (out .exit)) ⌝ }
+    requires { ⌜ TextsAt (now tree) (now index) × (65536 ≤ length (now scratch)) × (depth ≤ 9) × Indexed (now index) keys × Distinct (keysIn (now index) keys) × Placed (now tree) (now marks) × IsOk (vec (operand (textsOf (now tree))) (now tree) at) × SinkFits sink ⌝ }
+    ensures { λ r. ⌜ Emitted (textsOf (now (tree .entry))) (given [] (useOperands (scopesOf (now (scratch .entry)) depth) (marksOf (now (tree .entry)) (keysIn (now (index .entry)) keys) (now (marks .entry))) span) (vec (operand (textsOf (now (tree .entry)))) (now (tree .entry)) at)) sink (now (out .entry)) r (now (out .exit)) ⌝ }
 {
     let mut n = wide(tree[at]);
     let mut k = at + 1;

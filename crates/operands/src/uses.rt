@@ -37,15 +37,15 @@ pub fn check_slice_use(
     index: &[u64],
     out: &mut [u8],
     keys: usize,
-    marks: [u16; 256],
+    marks: &[u16; 256],
     x: usize,
     a: u64,
     b: u64,
     span: Span,
     sink: Sink,
 ) -> Sink
-    requires { ⌜ TextsAt (now tree) (now index) × Indexed (now index) keys × Distinct (keysIn (now index) keys) × Placed (now tree) marks × (x < length (textsOf (now tree))) × SinkFits sink ⌝ }
-    ensures { λ r. ⌜ Emitted (textsOf (now (tree .entry))) (usedIndexSays x span (smallestCovered (marksOf (now (tree .entry)) (keysIn (now (index .entry)) keys) marks) x (a, b))) sink (now (out .entry)) r (now (out .exit)) ⌝ }
+    requires { ⌜ TextsAt (now tree) (now index) × Indexed (now index) keys × Distinct (keysIn (now index) keys) × Placed (now tree) (now marks) × (x < length (textsOf (now tree))) × SinkFits sink ⌝ }
+    ensures { λ r. ⌜ Emitted (textsOf (now (tree .entry))) (usedIndexSays x span (smallestCovered (marksOf (now (tree .entry)) (keysIn (now (index .entry)) keys) (now (marks .entry))) x (a, b))) sink (now (out .entry)) r (now (out .exit)) ⌝ }
 {
     let Covered::At(i, place) = sheet::smallest(marks, index, keys, x, a, b) else {
         return sink;

@@ -271,13 +271,13 @@ pub fn check_args(
     out: &mut [u8],
     depth: usize,
     keys: usize,
-    marks: [u16; 256],
+    marks: &[u16; 256],
     at: usize,
     span: Span,
     sink: Sink,
 ) -> Sink
-    requires { ⌜ Walkable (now tree) (now index) keys × (65536 ≤ length (now scratch)) × (depth ≤ 9) × Placed (now tree) marks × SinkFits sink × IsOk (vec (operand (textsOf (now tree))) (now tree) at) ⌝ }
-    ensures { λ r. ⌜ Emitted (textsOf (now (tree .entry))) (useOperands (scopesOf (now (scratch .entry)) depth) (marksOf (now (tree .entry)) (keysIn (now (index .entry)) keys) marks) span (valueOr [] (vec (operand (textsOf (now (tree .entry)))) (now (tree .entry)) at)) ++ widthsSay span (registerWidths (scopesOf (now (scratch .entry)) depth) (valueOr [] (vec (operand (textsOf (now (tree .entry)))) (now (tree .entry)) at)))) sink (now (out .entry)) r (now (out .exit)) ⌝ }
+    requires { ⌜ Walkable (now tree) (now index) keys × (65536 ≤ length (now scratch)) × (depth ≤ 9) × Placed (now tree) (now marks) × SinkFits sink × IsOk (vec (operand (textsOf (now tree))) (now tree) at) ⌝ }
+    ensures { λ r. ⌜ Emitted (textsOf (now (tree .entry))) (useOperands (scopesOf (now (scratch .entry)) depth) (marksOf (now (tree .entry)) (keysIn (now (index .entry)) keys) (now (marks .entry))) span (valueOr [] (vec (operand (textsOf (now (tree .entry)))) (now (tree .entry)) at)) ++ widthsSay span (registerWidths (scopesOf (now (scratch .entry)) depth) (valueOr [] (vec (operand (textsOf (now (tree .entry)))) (now (tree .entry)) at)))) sink (now (out .entry)) r (now (out .exit)) ⌝ }
 {
     let s = operands::use_operands(
         tree,

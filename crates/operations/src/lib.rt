@@ -60,12 +60,12 @@ fn use_targets(
     out: &mut [u8],
     depth: usize,
     keys: usize,
-    marks: [u16; 256],
+    marks: &[u16; 256],
     at: usize,
     sink: Sink,
 ) -> After
-    requires { ⌜ Walkable (now tree) (now index) keys × (65536 ≤ length (now scratch)) × (depth ≤ 9) × Placed (now tree) marks × SinkFits sink × IsOk (vec (operand (textsOf (now tree))) (now tree) at) × (nextOf (vec (operand (textsOf (now tree))) (now tree) at) + 8 ≤ length (now tree)) ⌝ }
-    ensures { λ r. ⌜ SaidOf (textsOf (now (tree .entry))) (useOperands (scopesOf (now (scratch .entry)) depth) (marksOf (now (tree .entry)) (keysIn (now (index .entry)) keys) marks) (spanAt (now (tree .entry)) (r .next))) (vec (operand (textsOf (now (tree .entry)))) (now (tree .entry)) at) sink (now (out .entry)) r (now (out .exit)) ⌝ }
+    requires { ⌜ Walkable (now tree) (now index) keys × (65536 ≤ length (now scratch)) × (depth ≤ 9) × Placed (now tree) (now marks) × SinkFits sink × IsOk (vec (operand (textsOf (now tree))) (now tree) at) × (nextOf (vec (operand (textsOf (now tree))) (now tree) at) + 8 ≤ length (now tree)) ⌝ }
+    ensures { λ r. ⌜ SaidOf (textsOf (now (tree .entry))) (useOperands (scopesOf (now (scratch .entry)) depth) (marksOf (now (tree .entry)) (keysIn (now (index .entry)) keys) (now (marks .entry))) (spanAt (now (tree .entry)) (r .next))) (vec (operand (textsOf (now (tree .entry)))) (now (tree .entry)) at) sink (now (out .entry)) r (now (out .exit)) ⌝ }
 {
     let next = skip_operands(tree, at);
     let span = span_at(tree, next);
@@ -107,7 +107,7 @@ pub fn barrier(
         out,
         9 - left,
         keys,
-        marks,
+        &marks,
         at + 1,
         sink,
     );
@@ -154,7 +154,7 @@ pub fn delay(
         out,
         9 - left,
         keys,
-        marks,
+        &marks,
         next,
         checked,
     );
@@ -229,7 +229,7 @@ pub fn measure(
         out,
         9 - left,
         keys,
-        marks,
+        &marks,
         qubit,
         k,
         sink,
@@ -271,7 +271,7 @@ pub fn gate_call(
         out,
         9 - left,
         keys,
-        marks,
+        &marks,
         args_at,
         span,
         checked,

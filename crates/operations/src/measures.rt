@@ -69,13 +69,13 @@ fn warn_measured(
     index: &[u64],
     out: &mut [u8],
     keys: usize,
-    marks: [u16; 256],
+    marks: &[u16; 256],
     qubit: GateOperand,
     span: Span,
     sink: Sink,
 ) -> Sink
     requires { ⌜ Walkable (now tree) (now index) keys × (qubit .name < length (textsOf (now tree))) × SinkFits sink ⌝ }
-    ensures { λ r. ⌜ Emitted (textsOf (now (tree .entry))) (unless (not (isSome (lookupMeasured (marksOf (now (tree .entry)) (keysIn (now (index .entry)) keys) marks) (qubit .name) (numberOf (qubit .index))))) (warning (alreadyMeasured (operandOf qubit)) span)) sink (now (out .entry)) r (now (out .exit)) ⌝ }
+    ensures { λ r. ⌜ Emitted (textsOf (now (tree .entry))) (unless (not (isSome (lookupMeasured (marksOf (now (tree .entry)) (keysIn (now (index .entry)) keys) (now (marks .entry))) (qubit .name) (numberOf (qubit .index))))) (warning (alreadyMeasured (operandOf qubit)) span)) sink (now (out .entry)) r (now (out .exit)) ⌝ }
 {
     let name = qubit.name;
     let i = qubit.index;
@@ -152,13 +152,13 @@ pub fn check_measure(
     out: &mut [u8],
     depth: usize,
     keys: usize,
-    marks: [u16; 256],
+    marks: &[u16; 256],
     qubit: GateOperand,
     at: usize,
     sink: Sink,
 ) -> After
     requires { ⌜ Walkable (now tree) (now index) keys × (65536 ≤ length (now scratch)) × (depth ≤ 9) × (qubit .name < length (textsOf (now tree))) × SinkFits sink × IsOk (option (operand (textsOf (now tree))) (now tree) at) × (nextOf (option (operand (textsOf (now tree))) (now tree) at) + 8 ≤ length (now tree)) ⌝ }
-    ensures { λ r. ⌜ SaidOf (textsOf (now (tree .entry))) (λ target. measureSays (contextOf (now (tree .entry)) (keysIn (now (index .entry)) keys) (now (scratch .entry)) depth marks) (operandOf qubit) target (spanAt (now (tree .entry)) (r .next))) (option (operand (textsOf (now (tree .entry)))) (now (tree .entry)) at) sink (now (out .entry)) r (now (out .exit)) ⌝ }
+    ensures { λ r. ⌜ SaidOf (textsOf (now (tree .entry))) (λ target. measureSays (contextOf (now (tree .entry)) (keysIn (now (index .entry)) keys) (now (scratch .entry)) depth (now (marks .entry))) (operandOf qubit) target (spanAt (now (tree .entry)) (r .next))) (option (operand (textsOf (now (tree .entry)))) (now (tree .entry)) at) sink (now (out .entry)) r (now (out .exit)) ⌝ }
 {
     let s = operands::check_operand(
         tree,

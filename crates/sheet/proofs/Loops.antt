@@ -1,12 +1,12 @@
 -- What is left to do in the loops over the keys. Assumes nothing.
-use Prim.Native.Nat.{ℕ, suc, _+_, _-_, _≤_, _<_}
-use mathlib.Core.Path.{_≡_, sym, _∙_}
+use Prim.Native.Nat.{ℕ, zero, suc, _+_, _-_, _≤_, _<_}
+use mathlib.Core.Path.{_≡_, refl, sym, _∙_}
 use mathlib.Core.List.{List, [], _∷_}
+use mathlib.Core.Option.{Option, none, some}
 use mathlib.Core.Bool.{Bool, true, false, cond, _&&_}
 use native.Mathlib.Omega.{arith}
 use native.Mathlib.Numerals.{add-one}
-use lib.ListN.{length, getD, drop}
-use lib.Seq.{drop-cons}
+use lib.ListN.{getD, drop}
 use lib.Dec.{eqb}
 use Rattle.sema.specs.Marks.{Key, inSlice}
 use Rattle.sema.specs.Keys.{sameKey}
@@ -62,35 +62,49 @@ module _ {index : List ℕ} {count : ℕ} {key : Key} {k : ℕ} (s : Seeking ind
 
 pub ruleset seeking = (seeking-start, seeking-found, seeking-more, seeking-end)
 
+-- a key more before those that are compared, whether it has a place in the sheet or not
+module _ (x : ℕ) (r : ℕ × ℕ) (l : Key) (ls : List Key) where
+  abbrev more-least : ℕ → Covered → Covered
+  more-least p c = cond (eqb (l .name) x && inSlice r (l .index)) (offer (l .index) p c) c
+
+  least-unplaced : (ks : List Key) → leastIn x r ks [] ≡ Covered.None
+  unfolding leastIn
+  least-unplaced [] = refl
+  least-unplaced (k ∷ ks) = refl
+
+  same-none : (b : Bool) (o : Option ℕ) → Covered.None ≡ cond b (offer o 0 Covered.None) Covered.None
+  unfolding offer
+  same-none true none = refl
+  same-none true (some i) = refl
+  same-none false o = refl
+
+  least-more : (vs : List ℕ) (j : ℕ) → leastIn x r (l ∷ ls) (drop j vs) ≡ more-least (getD vs j 0) (leastIn x r ls (drop (suc j) vs))
+  unfolding leastIn
+  least-more [] zero = rw (least-unplaced ls) (same-none (eqb (l .name) x && inSlice r (l .index)) (l .index))
+  least-more [] (suc j) = rw (least-unplaced ls) (same-none (eqb (l .name) x && inSlice r (l .index)) (l .index))
+  least-more (v ∷ vs) zero = refl
+  least-more (v ∷ vs) (suc j) = least-more vs j
+
 -- the keys from number k on are compared
 pub record Comparing (index : List ℕ) (count x a b : ℕ) (sheet : List ℕ) (best : Covered) (k : ℕ) : Type 0 where
   pub within : k ≤ count
-  pub few : count ≤ 256
-  pub size : length sheet ≡ 256
   pub same : best ≡ leastIn x (a, b) (rest index count k) (drop k sheet)
 
-pub comparing-start : (index : List ℕ) (count x a b : ℕ) (sheet : List ℕ) → count ≤ 256 → length sheet ≡ 256
-    → Comparing index count x a b sheet Covered.None count
+pub comparing-start : (index : List ℕ) (count x a b : ℕ) (sheet : List ℕ) → Comparing index count x a b sheet Covered.None count
 unfolding leastIn
-comparing-start index count x a b sheet f l =
-    record { within = omega arith; few = f; size = l; same = rw (rest-end index count count (omega arith)) }
+comparing-start index count x a b sheet = record { within = omega arith; same = rw (rest-end index count count (omega arith)) }
 
 module _ {index : List ℕ} {count x a b : ℕ} {sheet : List ℕ} {best : Covered} {k : ℕ} (c : Comparing index count x a b sheet best k) where
   pub comparing-more : (j : ℕ) (r : Covered) → 0 < k → j ≡ k - 1
       → r ≡ cond (eqb (keyAt index j .name) x && inSlice (a, b) (keyAt index j .index)) (offer (keyAt index j .index) (getD sheet j 0) best) best
       → Comparing index count x a b sheet r j
-  unfolding leastIn
   comparing-more j r h e f =
-      let g : k ≡ j + 1 = omega arith in
+      let g : k ≡ suc j = omega arith in
       let u : j < count = omega (arith, c .within) in
-      let v : j < length sheet = omega (arith, c .few, c .size) in
-      let d : drop j sheet ≡ getD sheet j 0 ∷ drop (j + 1) sheet = rw (add-one j) (drop-cons sheet j 0 v) in
-      let w : best ≡ leastIn x (a, b) (rest index count (j + 1)) (drop (j + 1) sheet) = rw g at (c .same) in
+      let w : best ≡ leastIn x (a, b) (rest index count (suc j)) (drop (suc j) sheet) = rw g at (c .same) in
       record {
         within = omega arith;
-        few = c .few;
-        size = c .size;
-        same = rw (f, rest-more index count j u, d, w);
+        same = f ∙ rw (w, rest-more index count j u, add-one j) (sym (least-more x (a, b) (keyAt index j) (rest index count (suc j)) sheet j));
       }
 
   pub comparing-end : k ≤ 0 → best ≡ leastIn x (a, b) (keysIn index count) sheet

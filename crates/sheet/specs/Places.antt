@@ -119,6 +119,18 @@ pub first-some : (a b : ℕ) → (a ≡ 0 → ⊥) → first a b ≡ a
 first-some zero b f = absurd (f refl)
 first-some (suc a) b f = refl
 
+pub first-none : (a : ℕ) → first a 0 ≡ a
+first-none zero = refl
+first-none (suc a) = refl
+
+pub first-same : (a : ℕ) → first a a ≡ a
+first-same zero = refl
+first-same (suc a) = refl
+
+pub first-pos : (a b : ℕ) → 0 < b → 0 < first a b
+first-pos zero b h = h
+first-pos (suc a) b h = omega arith
+
 -- marks of places
 pub mark-first : (tree : List ℕ) (a b : ℕ) → markBy tree (first a b) ≡ orElse (markBy tree a) (markBy tree b)
 unfolding markBy

@@ -14,7 +14,7 @@ use Rattle.sema.specs.Keys.{sameKey, hasKey}
 use Rattle.context.specs.View.{placeIn, measureSpan, markBy, marksOf}
 use Rattle.sheet.specs.declared.Covered.{Covered}
 use Rattle.sheet.specs.Sheet.{first, lookupIn, smaller, offer, leastIn, byWhole, smallestIn, coveredOf, Distinct}
-use Rattle.sheet.specs.Places.{never, by-test, both, key-eq, same-key, place-here, place-there, unplaced, lookup-marks}
+use Rattle.sheet.specs.Places.{never, by-test, both, key-eq, same-key, place-here, place-there, unplaced, first-none, first-pos, lookup-marks}
 
 -- the first covered index of a range
 module _ (m : Marks) (x : TextNumber) where
@@ -154,20 +154,12 @@ module _ (tree : List ℕ) (ks : List Key) (sheet : List ℕ) (x : TextNumber) w
   mark-some zero h = absurd (omega arith)
   mark-some (suc p) h = refl
 
-  first-pos : (p q : ℕ) → 0 < q → 0 < first p q
-  first-pos zero q h = h
-  first-pos (suc p) q h = omega arith
-
   module _ (a b : ℕ) where
     -- the whole key has no mark
     module _ (z : whole ≡ 0) where
-      lone : (p : ℕ) → first p 0 ≡ p
-      lone zero = refl
-      lone (suc p) = refl
-
       by-own : (j p : ℕ) → own x a b ks sheet j ≡ p → lookupMeasured (marksOf tree ks sheet) x (some j) ≡ markBy tree p
       unfolding lookupIn
-      by-own j p e = looked j p (rw (e, z) (lone p))
+      by-own j p e = looked j p (rw (e, z) (first-none p))
 
       least-marks : a ≤ b → (c : Covered) → IsLeast (own x a b ks sheet) a b c → coveredOf tree c ≡ smallestCovered (marksOf tree ks sheet) x (a, b)
       unfolding IsLeast smallestCovered markBy

@@ -1,17 +1,19 @@
 // The mark sheet: for each key of the index the place of the measure statement that marked it, or 0.
 // The walk over a tree calls these functions. Its index is the one that is made before the walk, with all keys of the tree in it.
+pub mod new_keys;
+
 ghost use mathlib.Core.Path.{_≡_};
 ghost use mathlib.Core.List.{List};
 ghost use mathlib.Core.Bool.{cond, _&&_};
-ghost use mathlib.Core.Option.{none};
-ghost use Prim.Native.Nat.{ℕ, suc, _+_, _-_, _*_, _^_, _≤_, _<_, min};
+ghost use Prim.Native.Nat.{ℕ, _+_, _*_, _<_};
+ghost use lib.ListN.{length};
 ghost use lib.Dec.{eqb};
 ghost use Rattle.span.specs.declared.Span.{Span};
-ghost use Rattle.sema.specs.Marks.{Key, key, noMarks, inSlice, isIndex, belowSize, apply, clearMeasured, unite as uniteMarks};
-ghost use Rattle.sema.specs.Keys.{sameKey, addKey, addRange, addMeasured, sizeOr0};
+ghost use Rattle.sema.specs.Marks.{Key, noMarks, inSlice, isIndex, belowSize, apply, clearMeasured, unite as uniteMarks};
+ghost use Rattle.sema.specs.Keys.{sameKey};
 ghost use Rattle.context.specs.Values.{numberOf, endsOf, operandOf};
-ghost use Rattle.context.specs.View.{keyBy, keysIn, placeIn, marksOf, measureSpan, PlaceOk, Placed};
-ghost use Rattle.sheet.specs.Sheet.{Indexed, position, lookupIn, smaller, offer, leastIn, smallestIn, Covers, reaches, touches, measuring, stored, KeysAdded, first};
+ghost use Rattle.context.specs.View.{keyBy, keyAt, keysIn, placeIn, marksOf, measureSpan, PlaceOk, Placed};
+ghost use Rattle.sheet.specs.Sheet.{Indexed, lookupIn, smaller, offer, leastIn, smallestIn, Distinct, Covers, reaches, touches, measuring, stored, first};
 use context::Ends;
 use context::GateOperand;
 use context::Number;
@@ -35,19 +37,11 @@ fn same_key(head: u64, i: u64, other: u64, j: u64) -> bool
     false
 }
 
-// The number of a key, or the count where it is not there.
-fn find(index: &[u64], count: usize, head: u64, i: u64) -> usize
-    requires { ⌜ Indexed (now index) count ⌝ }
-    ensures { λ r. ⌜ r ≡ position (keysIn (now (index .entry)) count) (keyBy head i) ⌝ }
+// A place, or another where it is none.
+fn either(place: u16, other: u16) -> u16
+    ensures { λ r. ⌜ r ≡ first place other ⌝ }
 {
-    let mut k = 0;
-    while k < count {
-        if same_key(index[256 + 2 * k], index[256 + 2 * k + 1], head, i) {
-            return k;
-        }
-        k += 1;
-    }
-    k
+    if place == 0 { other } else { place }
 }
 
 // The numbers of a key: twice its name, and 1 more if it has an index.
@@ -65,29 +59,49 @@ fn index_head(x: usize) -> u64
     2 * (x as u64) + 1
 }
 
-fn place_of(sheet: [u16; 256], index: &[u64], count: usize, head: u64, i: u64) -> u16
-    requires { ⌜ Indexed (now index) count ⌝ }
-    ensures { λ r. ⌜ r ≡ placeIn (keysIn (now (index .entry)) count) sheet (keyBy head i) ⌝ }
+// The place of number k where it has one and is the key, or else the one that was met before.
+fn met(index: &[u64], k: usize, place: u16, head: u64, i: u64, before: u16) -> u16
+    requires { ⌜ (length (now index) ≡ 768) × (k < 256) ⌝ }
+    ensures { λ r. ⌜ r ≡ first (cond (sameKey (keyAt (now (index .entry)) k) (keyBy head i)) place 0) before ⌝ }
 {
-    let k = find(index, count, head, i);
-    if k < count { sheet[k] } else { 0 }
+    if place == 0 {
+        return before;
+    }
+    if same_key(index[256 + 2 * k], index[256 + 2 * k + 1], head, i) {
+        return place;
+    }
+    before
+}
+
+// The place of a key, or where it has none that of the whole key. No two keys are equal, so one without a mark is not read.
+fn place_of(sheet: &[u16; 256], index: &[u64], count: usize, head: u64, i: u64, whole: u64) -> u16
+    requires { ⌜ Indexed (now index) count ⌝ }
+    requires { ⌜ Distinct (keysIn (now index) count) ⌝ }
+    ensures { λ r. ⌜ r ≡ first (placeIn (keysIn (now (index .entry)) count) (now (sheet .entry)) (keyBy head i)) (placeIn (keysIn (now (index .entry)) count) (now (sheet .entry)) (keyBy whole 0)) ⌝ }
+{
+    let mut own = 0;
+    let mut other = 0;
+    let mut k = 0;
+    while k < count {
+        let place = sheet[k];
+        own = met(index, k, place, head, i, own);
+        other = met(index, k, place, whole, 0, other);
+        k += 1;
+    }
+    either(own, other)
 }
 
 // The place of the mark that covers a name, or an index of it; 0 where there is none.
-pub fn lookup(sheet: [u16; 256], index: &[u64], count: usize, x: usize, i: Number) -> u16
+pub fn lookup(sheet: &[u16; 256], index: &[u64], count: usize, x: usize, i: Number) -> u16
     requires { ⌜ Indexed (now index) count ⌝ }
+    requires { ⌜ Distinct (keysIn (now index) count) ⌝ }
     requires { ⌜ x < 256 ⌝ }
-    ensures { λ r. ⌜ r ≡ lookupIn (keysIn (now (index .entry)) count) sheet x (numberOf i) ⌝ }
+    ensures { λ r. ⌜ r ≡ lookupIn (keysIn (now (index .entry)) count) (now (sheet .entry)) x (numberOf i) ⌝ }
 {
+    let whole = whole_head(x);
     match i {
-        Number::Some(j) => {
-            let own = place_of(sheet, index, count, index_head(x), j);
-            if own == 0 {
-                return place_of(sheet, index, count, whole_head(x), 0);
-            }
-            own
-        }
-        Number::None => place_of(sheet, index, count, whole_head(x), 0),
+        Number::Some(j) => place_of(sheet, index, count, index_head(x), j, whole),
+        Number::None => place_of(sheet, index, count, whole, 0, whole),
     }
 }
 
@@ -140,14 +154,18 @@ fn nearer(i: u64, place: u16, best: Covered) -> Covered
     }
 }
 
-fn offered(best: Covered, x: usize, a: u64, b: u64, head: u64, i: u64, place: u16) -> Covered
-    ensures { λ r. ⌜ r ≡ cond (eqb (keyBy head i .name) x && inSlice (a, b) (keyBy head i .index)) (offer (keyBy head i .index) place best) best ⌝ }
+// The smallest index with number k among the keys, where that is one of the slice and has a place.
+fn offered(index: &[u64], k: usize, x: usize, a: u64, b: u64, place: u16, best: Covered) -> Covered
+    requires { ⌜ (length (now index) ≡ 768) × (k < 256) ⌝ }
+    ensures { λ r. ⌜ r ≡ cond (eqb (keyAt (now (index .entry)) k .name) x && inSlice (a, b) (keyAt (now (index .entry)) k .index)) (offer (keyAt (now (index .entry)) k .index) place best) best ⌝ }
 {
+    if place == 0 {
+        return best;
+    }
+    let head = index[256 + 2 * k];
+    let i = index[256 + 2 * k + 1];
     if head / 2 == x as u64 {
         if within(head, i, a, b) {
-            if place == 0 {
-                return best;
-            }
             return nearer(i, place, best);
         }
         return best;
@@ -156,37 +174,37 @@ fn offered(best: Covered, x: usize, a: u64, b: u64, head: u64, i: u64, place: u1
 }
 
 // The smallest index of a slice whose own key is marked.
-fn least(sheet: [u16; 256], index: &[u64], count: usize, x: usize, a: u64, b: u64) -> Covered
+fn least(sheet: &[u16; 256], index: &[u64], count: usize, x: usize, a: u64, b: u64) -> Covered
     requires { ⌜ Indexed (now index) count ⌝ }
-    ensures { λ r. ⌜ r ≡ leastIn x (a, b) (keysIn (now (index .entry)) count) sheet ⌝ }
+    ensures { λ r. ⌜ r ≡ leastIn x (a, b) (keysIn (now (index .entry)) count) (now (sheet .entry)) ⌝ }
 {
     let mut best = Covered::None;
     let mut k = count;
     while 0 < k {
         k -= 1;
-        best = offered(
-            best,
-            x,
-            a,
-            b,
-            index[256 + 2 * k],
-            index[256 + 2 * k + 1],
-            sheet[k],
-        );
+        best = offered(index, k, x, a, b, sheet[k], best);
     }
     best
 }
 
 // The smallest index of a slice that a mark covers.
-pub fn smallest(sheet: [u16; 256], index: &[u64], count: usize, x: usize, a: u64, b: u64) -> Covered
+pub fn smallest(
+    sheet: &[u16; 256],
+    index: &[u64],
+    count: usize,
+    x: usize,
+    a: u64,
+    b: u64,
+) -> Covered
     requires { ⌜ Indexed (now index) count ⌝ }
+    requires { ⌜ Distinct (keysIn (now index) count) ⌝ }
     requires { ⌜ x < 256 ⌝ }
-    ensures { λ r. ⌜ r ≡ smallestIn (keysIn (now (index .entry)) count) sheet x (a, b) ⌝ }
+    ensures { λ r. ⌜ r ≡ smallestIn (keysIn (now (index .entry)) count) (now (sheet .entry)) x (a, b) ⌝ }
 {
     if b < a {
         return Covered::None;
     }
-    if place_of(sheet, index, count, whole_head(x), 0) == 0 {
+    if lookup(sheet, index, count, x, Number::None) == 0 {
         return least(sheet, index, count, x, a, b);
     }
     Covered::At(a, lookup(sheet, index, count, x, Number::Some(a)))
@@ -273,13 +291,6 @@ pub fn clear(sheet: [u16; 256], index: &[u64], count: usize, op: GateOperand) ->
     store(sheet, index, count, op, Number::None, true, 0)
 }
 
-// A place, or another where it is none.
-fn either(place: u16, other: u16) -> u16
-    ensures { λ r. ⌜ r ≡ first place other ⌝ }
-{
-    if place == 0 { other } else { place }
-}
-
 // Both exits of a branch: the marks of a, and where it has none those of b.
 pub fn unite(a: [u16; 256], b: [u16; 256]) -> [u16; 256]
     ensures placed { λ r. ⌜ ((tree : List ℕ) → Placed tree a → Placed tree b → Placed tree r) ⌝ }
@@ -299,110 +310,4 @@ pub fn blank() -> [u16; 256]
     ensures marks { λ r. ⌜ ((tree : List ℕ) (ks : List Key) → marksOf tree ks r ≡ noMarks) ⌝ }
 {
     [0u16; 256]
-}
-
-// A key more, if it is not there; 257 where there is no room, and the index is as it was.
-pub fn add_key(index: &mut [u64], count: usize, head: u64, i: u64) -> usize
-    requires { ⌜ Indexed (now index) count ⌝ }
-    ensures added { λ r. ⌜ KeysAdded (now (index .entry)) (now (index .exit)) r (addKey (keysIn (now (index .entry)) count) (keyBy head i)) ⌝ }
-    ensures over { λ r. ⌜ (r ≡ 257 → now (index .exit) ≡ now (index .entry)) ⌝ }
-{
-    let k = find(index, count, head, i);
-    if k < count {
-        return count;
-    }
-    if count == 256 {
-        return 257;
-    }
-    index[256 + 2 * count] = head;
-    index[256 + 2 * count + 1] = i;
-    count + 1
-}
-
-// As add_key, where the key may stand at a number that is near.
-fn add_near(index: &mut [u64], count: usize, near: usize, head: u64, i: u64) -> usize
-    requires { ⌜ Indexed (now index) count ⌝ }
-    ensures added { λ r. ⌜ KeysAdded (now (index .entry)) (now (index .exit)) r (addKey (keysIn (now (index .entry)) count) (keyBy head i)) ⌝ }
-    ensures over { λ r. ⌜ (r ≡ 257 → now (index .exit) ≡ now (index .entry)) ⌝ }
-{
-    if near < count {
-        if same_key(index[256 + 2 * near], index[256 + 2 * near + 1], head, i) {
-            return count;
-        }
-    }
-    add_key(index, count, head, i)
-}
-
-fn at_most_257(n: u64) -> u64
-    ensures { λ r. ⌜ r ≡ min n 257 ⌝ }
-{
-    if n < 257 { n } else { 257 }
-}
-
-// So many indices of a name, from i on; 257 where there is no room for all.
-pub fn add_range(index: &mut [u64], count: usize, x: usize, i: u64, n: u64) -> usize
-    requires { ⌜ Indexed (now index) count ⌝ }
-    requires { ⌜ (x < 256) × (i + n ≤ 2 ^ 64) ⌝ }
-    ensures { λ r. ⌜ KeysAdded (now (index .entry)) (now (index .exit)) r (addRange (keysIn (now (index .entry)) count) x i n) ⌝ }
-{
-    let head = index_head(x);
-    let m = at_most_257(n);
-    let first = find(index, count, head, i);
-    let mut c = count;
-    let mut j = 0;
-    while j < m {
-        c = add_near(index, c, first + j as usize, head, i + j);
-        if c == 257 {
-            return 257;
-        }
-        j += 1;
-    }
-    c
-}
-
-// Each index of a slice.
-fn add_slice(index: &mut [u64], count: usize, x: usize, a: u64, b: u64) -> usize
-    requires { ⌜ Indexed (now index) count ⌝ }
-    requires { ⌜ x < 256 ⌝ }
-    ensures { λ r. ⌜ KeysAdded (now (index .entry)) (now (index .exit)) r (addRange (keysIn (now (index .entry)) count) x a (suc b - a)) ⌝ }
-{
-    if b < a {
-        return count;
-    }
-    let n = at_most_257(b - a);
-    add_range(index, count, x, a, n + 1)
-}
-
-// The whole key, and each index below the size.
-fn add_whole(index: &mut [u64], count: usize, x: usize, size: Number) -> usize
-    requires { ⌜ Indexed (now index) count ⌝ }
-    requires { ⌜ x < 256 ⌝ }
-    ensures { λ r. ⌜ KeysAdded (now (index .entry)) (now (index .exit)) r (addRange (addKey (keysIn (now (index .entry)) count) (key x none)) x 0 (sizeOr0 (numberOf size))) ⌝ }
-{
-    let c = add_key(index, count, whole_head(x), 0);
-    if c == 257 {
-        return 257;
-    }
-    match size {
-        Number::Some(n) => add_range(index, c, x, 0, n),
-        Number::None => c,
-    }
-}
-
-// The keys that a measure of the operand sets, where its name shows a size; 257 where there is no room for all.
-pub fn add_measured(index: &mut [u64], count: usize, op: GateOperand, size: Number) -> usize
-    requires { ⌜ Indexed (now index) count ⌝ }
-    requires { ⌜ op .name < 256 ⌝ }
-    ensures { λ r. ⌜ KeysAdded (now (index .entry)) (now (index .exit)) r (addMeasured (keysIn (now (index .entry)) count) (op .name) (numberOf size) (endsOf (op .slice)) (numberOf (op .index))) ⌝ }
-{
-    let x = op.name;
-    let slice = op.slice;
-    let at = op.index;
-    match slice {
-        Ends::Some(a, b) => add_slice(index, count, x, a, b),
-        Ends::None => match at {
-            Number::Some(i) => add_key(index, count, index_head(x), i),
-            Number::None => add_whole(index, count, x, size),
-        },
-    }
 }

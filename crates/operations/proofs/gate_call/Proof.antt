@@ -15,7 +15,7 @@ gate-call-spec =
     (λ c. let s = c .before .before .before .before .before .before .before .before .before .before .before .before in let p = s .pre in let i = gateCall-name-in _ _ _ _ (p .2) (p .4) in omega arith)  -- add-check-values
     (λ c κs. let s = c .before .before .before .before .before .before .before .before .before .before .before .before in let p = s .pre in let a = c .before .before .before .before .before .call-at in (p .0 .texts, p .1 .room, search needs, c .before .before .before .check-signature .ensures .fits, gateCall-modifiers _ _ _ _ (p .2) (p .4), call-params _ _ _ (p .2) (p .4) (a .result) (a .ensures)))  -- check-values-requires
     (λ c. search needs)  -- sub-check-args
-    (λ c κs. let s = c .before .before .before .before .before .before .before .before .before .before .before .before .before .before .before .before .before in let p = s .pre in let a = c .before .before .before .before .before .before .before .before .before .before .call-at in (p .0, p .1 .room, search needs, p .1 .placed, c .before .before .before .before .check-values .ensures .fits, call-args _ _ _ (p .2) (p .4) (a .result) (a .ensures)))  -- check-args-requires
-    (λ c. let s = c .before .before .before .before .before .before .before .before .before .before .before .before .before .before .before .before .before .before .before .before .before in let p = s .pre in let a = c .before .before .before .before .before .before .before .before .before .before .before .before .before .before .call-at in let i = call-in _ _ _ (p .2) (p .4) (a .result) (a .ensures) in omega arith)  -- add-t22
+    (λ c κs. let s = c .before .before .before .before .before .before .before .before .before .before .before .before .before .before .before .before .before .before in let p = s .pre in let a = c .before .before .before .before .before .before .before .before .before .before .before .call-at in (p .0, p .1 .room, search needs, p .1 .placed, c .before .before .before .before .before .check-values .ensures .fits, call-args _ _ _ (p .2) (p .4) (a .result) (a .ensures)))  -- check-args-requires
+    (λ c. let s = c .before .before .before .before .before .before .before .before .before .before .before .before .before .before .before .before .before .before .before .before .before .before in let p = s .pre in let a = c .before .before .before .before .before .before .before .before .before .before .before .before .before .before .before .call-at in let i = call-in _ _ _ (p .2) (p .4) (a .result) (a .ensures) in omega arith)  -- add-t22
     (λ c. search needs)  -- same-length
-    (λ c. let s = c .before .before .before .before .before .before .before .before .before .before .before .before .before .before .before .before .before .before .before .before .before in let p = s .pre in let a = c .before .before .before .before .before .before .before .before .before .before .before .before .before .before .call-at in call-walked _ _ _ _ (s .args .st) (p .2) (p .4) (a .result) (a .ensures) (p .1) (c .before .before .before .before .before .before .before .before .before .before .before .before .check-signature .ensures) (c .before .before .before .before .before .before .before .before .check-values .ensures) (c .before .before .before .check-args .ensures)))  -- returns
+    (λ c. let s = c .before .before .before .before .before .before .before .before .before .before .before .before .before .before .before .before .before .before .before .before .before .before in let p = s .pre in let a = c .before .before .before .before .before .before .before .before .before .before .before .before .before .before .before .call-at in call-walked _ _ _ _ (s .args .st) (p .2) (p .4) (a .result) (a .ensures) (p .1) (c .before .before .before .before .before .before .before .before .before .before .before .before .before .check-signature .ensures) (c .before .before .before .before .before .before .before .before .before .check-values .ensures) (c .before .before .before .check-args .ensures)))  -- returns

@@ -5,10 +5,10 @@ use Rattle.sheet.proofs.least.Statement.{statement}
 use Rattle.sheet.proofs.least.Tie as tie
 
 abbrev Inv-loop : tie.InvT-loop
-Inv-loop index count x a b sheet best₀ k₀ best k = Comparing index count x a b sheet best k
+Inv-loop sheet index count x a b best₀ k₀ best k = Comparing index count x a b sheet best k
 
 abbrev μ-loop : tie.MeasureT-loop
-μ-loop index count x a b sheet best₀ k₀ best k = k
+μ-loop sheet index count x a b best₀ k₀ best k = k
 
 pub least-spec : {M : Type 1} → statement M
 least-spec =
@@ -16,16 +16,7 @@ least-spec =
     (λ c. search comparing)  -- loop-holds
     (λ c. search needs)  -- sub-k
     (λ c. search needs)  -- mul-offered
-    (λ c. search needs)  -- add-offered
-    (λ c. search needs)  -- mul-offered-2
-    (λ c. search needs)  -- shared-slice-read-offered
-    (λ c. search needs)  -- mul-offered-3
-    (λ c. search needs)  -- add-offered-2
-    (λ c. search needs)  -- add-offered-3
-    (λ c. search needs)  -- mul-offered-4
-    (λ c. search needs)  -- shared-slice-read-offered-2
-    (λ c. search needs)  -- mul-offered-5
-    (λ c. search needs)  -- array-read-offered
+    (λ c. search needs)  -- element-copy-out-offered
     (λ c κs. search needs)  -- offered-requires
     (λ c. search needs)  -- loop-less
     (λ c. search comparing)  -- loop-again

@@ -7,8 +7,17 @@ use Rattle.sheet.proofs.offered.Tie as tie
 pub offered-spec : {M : Type 1} → statement M
 offered-spec =
     tie.close (tie.spec
-    (λ c κs. search needs)  -- within-requires
     (λ c. search offers)  -- returns
+    (λ c. search needs)  -- mul-head
+    (λ c. search needs)  -- add-head
+    (λ c. search needs)  -- mul-head-2
+    (λ c. search needs)  -- shared-slice-read-head
+    (λ c. search needs)  -- mul-i
+    (λ c. search needs)  -- add-i
+    (λ c. search needs)  -- add-i-2
+    (λ c. search needs)  -- mul-i-2
+    (λ c. search needs)  -- shared-slice-read-i
+    (λ c κs. search needs)  -- within-requires
     (λ c κs. search needs)  -- nearer-requires
     (λ c. search offers)  -- returns-2
     (λ c. search offers)  -- returns-3

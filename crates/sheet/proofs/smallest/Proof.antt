@@ -8,9 +8,8 @@ pub smallest-spec : {M : Type 1} → statement M
 smallest-spec =
     tie.close (tie.spec
     (λ c. search least-covered)  -- returns
-    (λ c κs. search needs)  -- whole-head-requires
-    (λ c κs. search needs)  -- place-of-requires
+    (λ c κs. search needs)  -- lookup-requires
     (λ c κs. search needs)  -- least-requires
     (λ c. search least-covered)  -- returns-2
-    (λ c κs. search needs)  -- lookup-requires
+    (λ c κs. search needs)  -- lookup-requires-2
     (λ c. search least-covered))  -- returns-3

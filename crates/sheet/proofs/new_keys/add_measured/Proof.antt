@@ -1,8 +1,8 @@
--- `sheet::add_measured` meets its contract. Assumes nothing.
+-- `sheet::new_keys::add_measured` meets its contract. Assumes nothing.
 use Rattle.sheet.proofs.Measured.{measured}
 use borrow.Author.Needs.{needs}
-use Rattle.sheet.proofs.add_measured.Statement.{statement}
-use Rattle.sheet.proofs.add_measured.Tie as tie
+use Rattle.sheet.proofs.new_keys.add_measured.Statement.{statement}
+use Rattle.sheet.proofs.new_keys.add_measured.Tie as tie
 
 pub add-measured-spec : {M : Type 1} → statement M
 add-measured-spec =

@@ -1,10 +1,10 @@
--- `sheet::find` meets its contract. Assumes nothing.
+-- `sheet::new_keys::find` meets its contract. Assumes nothing.
 use Prim.Native.Nat.{_-_}
 use Rattle.context.specs.View.{keyBy}
 use Rattle.sheet.proofs.Loops.{Seeking, seeking}
 use borrow.Author.Needs.{needs}
-use Rattle.sheet.proofs.find.Statement.{statement}
-use Rattle.sheet.proofs.find.Tie as tie
+use Rattle.sheet.proofs.new_keys.find.Statement.{statement}
+use Rattle.sheet.proofs.new_keys.find.Tie as tie
 
 abbrev Inv-loop : tie.InvT-loop
 Inv-loop index count head i k₀ k = Seeking index count (keyBy head i) k

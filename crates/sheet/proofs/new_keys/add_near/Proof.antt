@@ -1,8 +1,8 @@
--- `sheet::add_near` meets its contract. Assumes nothing.
+-- `sheet::new_keys::add_near` meets its contract. Assumes nothing.
 use Rattle.sheet.proofs.Adding.{added-near}
 use borrow.Author.Needs.{needs}
-use Rattle.sheet.proofs.add_near.Statement.{statement}
-use Rattle.sheet.proofs.add_near.Tie as tie
+use Rattle.sheet.proofs.new_keys.add_near.Statement.{statement}
+use Rattle.sheet.proofs.new_keys.add_near.Tie as tie
 
 pub add-near-spec : {M : Type 1} → statement M
 add-near-spec =

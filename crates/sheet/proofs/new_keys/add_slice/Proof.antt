@@ -1,8 +1,8 @@
--- `sheet::add_slice` meets its contract. Assumes nothing.
+-- `sheet::new_keys::add_slice` meets its contract. Assumes nothing.
 use Rattle.sheet.proofs.Measured.{slice-none, slice-some}
 use borrow.Author.Needs.{needs}
-use Rattle.sheet.proofs.add_slice.Statement.{statement}
-use Rattle.sheet.proofs.add_slice.Tie as tie
+use Rattle.sheet.proofs.new_keys.add_slice.Statement.{statement}
+use Rattle.sheet.proofs.new_keys.add_slice.Tie as tie
 
 pub add-slice-spec : {M : Type 1} → statement M
 add-slice-spec =

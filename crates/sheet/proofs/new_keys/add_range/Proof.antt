@@ -1,10 +1,10 @@
--- `sheet::add_range` meets its contract. Assumes nothing.
+-- `sheet::new_keys::add_range` meets its contract. Assumes nothing.
 use Prim.Native.Nat.{_-_}
 use Rattle.sheet.proofs.Adding.{Adding, adding-start, adding-over, adding-more, adding-end, near-small}
 use native.Mathlib.Omega.{arith}
 use borrow.Author.Needs.{needs}
-use Rattle.sheet.proofs.add_range.Statement.{statement}
-use Rattle.sheet.proofs.add_range.Tie as tie
+use Rattle.sheet.proofs.new_keys.add_range.Statement.{statement}
+use Rattle.sheet.proofs.new_keys.add_range.Tie as tie
 
 abbrev Inv-loop : tie.InvT-loop
 Inv-loop index₀ count x i n head m first c₀ j₀ index c j = Adding index₀ count x i n m index c j

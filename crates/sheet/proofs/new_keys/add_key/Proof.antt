@@ -1,10 +1,10 @@
--- `sheet::add_key` meets its contract. Assumes nothing.
+-- `sheet::new_keys::add_key` meets its contract. Assumes nothing.
 use native.Mathlib.Omega.{arith}
 use lib.ListN.{length-set}
 use Rattle.sheet.proofs.Adding.{added-there, added-over, added-new}
 use borrow.Author.Needs.{needs}
-use Rattle.sheet.proofs.add_key.Statement.{statement}
-use Rattle.sheet.proofs.add_key.Tie as tie
+use Rattle.sheet.proofs.new_keys.add_key.Statement.{statement}
+use Rattle.sheet.proofs.new_keys.add_key.Tie as tie
 
 pub add-key-spec : {M : Type 1} → statement M
 add-key-spec =

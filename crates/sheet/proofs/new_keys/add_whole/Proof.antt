@@ -1,8 +1,8 @@
--- `sheet::add_whole` meets its contract. Assumes nothing.
+-- `sheet::new_keys::add_whole` meets its contract. Assumes nothing.
 use Rattle.sheet.proofs.Measured.{wholes}
 use borrow.Author.Needs.{needs}
-use Rattle.sheet.proofs.add_whole.Statement.{statement}
-use Rattle.sheet.proofs.add_whole.Tie as tie
+use Rattle.sheet.proofs.new_keys.add_whole.Statement.{statement}
+use Rattle.sheet.proofs.new_keys.add_whole.Tie as tie
 
 pub add-whole-spec : {M : Type 1} → statement M
 add-whole-spec =
