@@ -1,14 +1,11 @@
 -- Lines, and a diagnostic of one or two of them. Assumes nothing.
-use Prim.Native.Nat.{ℕ, suc, _+_, _*_, _<_, _≤_}
+use Prim.Native.Nat.{ℕ, _+_, _<_, _≤_}
 use mathlib.Core.Path.{_≡_, refl, sym, ap, subst, _∙_}
 use mathlib.Core.List.{List, [], _∷_, _++_, append-assoc, append-nil}
-use mathlib.Core.Option.{Option, none, some}
 use native.Mathlib.Omega.{arith}
 use native.Mathlib.Numerals.{add-one}
 use native.Mathlib.Nat.{add-zero}
 use lib.ListN.{length}
-use lib.Seq.{sets}
-use lib.Dec.{T}
 use Rattle.text.specs.Text.{text}
 use Rattle.text.specs.Decimal.{decimal}
 use Rattle.span.specs.declared.Span.{Span}
@@ -17,7 +14,7 @@ use Rattle.tree.specs.Decode.{textsOf}
 use Rattle.sema.specs.Messages.{messageText}
 use Rattle.listing.specs.Listing.{ended, spaced, spanLine, letter, noteLines, diagnosticLine, diagnosticLines}
 use Rattle.context.specs.View.{TextsAt}
-use Rattle.context.specs.Sink.{Written, writtenOf, store, bytesOf, emitOne, SinkFits}
+use Rattle.context.specs.Sink.{writtenOf, store, bytesOf, SinkFits}
 use Rattle.context.specs.declared.Sink.{Sink}
 use Rattle.lines.specs.declared.Severity.{Severity}
 use Rattle.lines.specs.declared.Message.{Message}
@@ -27,12 +24,12 @@ use Rattle.lines.specs.declared.Diagnostic.{Diagnostic}
 use Rattle.lines.specs.declared.Plan.{Plan}
 use Rattle.lines.specs.Stored.{Wrote, Said}
 use Rattle.lines.specs.EmitLaws.{ended-append, one-within, one-past}
-use Rattle.lines.specs.Values.{severityOf, messageOf, secondaryOf, diagnosticOf, nameIn, nameInNote, Below, NoteBelow, Fits, countedOf, Reported}
-use Rattle.lines.specs.Plans.{rowAt, rowRoom, planText, hasName, Readable, Named, headText, lineText}
+use Rattle.lines.specs.Values.{severityOf, messageOf, secondaryOf, diagnosticOf, nameIn, Below, NoteBelow, countedOf, Reported}
+use Rattle.lines.specs.Plans.{rowAt, rowRoom, planText, Readable, Named, headText, lineText}
 use Rattle.lines.specs.Kinds.{letterByte, noteByte, planOf, notePlan}
 use Rattle.lines.proofs.Parts.{row-room}
 use Rattle.lines.proofs.Sink.{wrote-then}
-use Rattle.lines.proofs.Messages.{Says, message-says, note-says}
+use Rattle.lines.proofs.Messages.{message-says, note-says}
 
 -- head, message and end make a line
 pub line-said : (t : List Text) (c : ℕ) (sp : Span) (p : Plan) {o : List ℕ} {n : ℕ} {o₁ : List ℕ} {a : ℕ} {o₂ : List ℕ} {b : ℕ} {o₃ : List ℕ} {r : ℕ} → Said o n o₁ a (headText c sp) 24 → Said o₁ a o₂ b (planText t p) (rowRoom (rowAt (p .kind))) → Wrote o₂ b o₃ r (10 ∷ []) → Said o n o₃ r (lineText t c sp p) 512

@@ -12,7 +12,7 @@ use Rattle.lines.specs.Stored.{Wrote, Said, Before}
 use Rattle.lines.proofs.Digits.{decimal-length, decimal-short, decimal-small, decimal-one, decimal-step, step-length}
 
 -- a byte stored before the rest of a list
-pub drop-set : (l : List ℕ) (k x : ℕ) → k < length l → drop k (set l k x) ≡ x ∷ drop (suc k) l
+drop-set : (l : List ℕ) (k x : ℕ) → k < length l → drop k (set l k x) ≡ x ∷ drop (suc k) l
 drop-set [] k x h = absurd (omega arith)
 drop-set (y ∷ l) zero x h = refl
 drop-set (y ∷ l) (suc k) x h = drop-set l k x (omega arith)
@@ -64,12 +64,12 @@ module _ (v : ℕ) {b₀ : List ℕ} {end : ℕ} (h : (length (decimal v) ≤ en
         }
 
 -- the rest of the bytes, as a piece
-pub tail : (b : List ℕ) (i : ℕ) → length b ≡ 24 → take (24 - i) (drop i b) ≡ drop i b
+tail : (b : List ℕ) (i : ℕ) → length b ≡ 24 → take (24 - i) (drop i b) ≡ drop i b
 tail b i h = take-all (24 - i) (drop i b) (omega (arith, length-drop i b))
 
 -- `number` stores the digits
 module _ (v : ℕ) {b₀ b : List ℕ} {i : ℕ} (h : length b₀ ≡ 24) (s : Before b₀ 24 b i (decimal v)) where
-  pub number-piece : take (24 - i) (drop i b) ≡ decimal v
+  number-piece : take (24 - i) (drop i b) ≡ decimal v
   number-piece =
       tail b i (s .size ∙ h) ∙ s .shows ∙ ap (λ (l : List ℕ). decimal v ++ l) (drop-of-length-le b₀ {i = 24} (omega arith)) ∙ append-nil (decimal v)
 
@@ -97,7 +97,7 @@ module _ (sp : Span) (c : ℕ) (u : sp .start < 4294967296) (v : sp .end < 42949
     pub start-past : 2 ≤ s
     start-past = omega (arith, end-past, S .start, decimal-small (sp .start) u)
 
-    pub start-below : s < 24
+    start-below : s < 24
     start-below = omega (arith, S .start, E .start)
 
     start-size : length b₃ ≡ 24
@@ -112,7 +112,7 @@ module _ (sp : Span) (c : ℕ) (u : sp .start < 4294967296) (v : sp .end < 42949
     start-shows : drop (s - 1) (set b₃ (s - 1) 32) ≡ 32 ∷ (decimal (sp .start) ++ (32 ∷ (decimal (sp .end) ++ (32 ∷ []))))
     start-shows = before-set b₃ s 32 (omega (arith, start-past)) (omega (arith, start-below, start-size)) ∙ ap (λ (l : List ℕ). 32 ∷ l) (S .shows ∙ rw end-shows)
 
-    pub head-piece : take (24 - (s - 2)) (drop (s - 2) (set (set b₃ (s - 1) 32) (s - 2) c)) ≡ headText c sp
+    head-piece : take (24 - (s - 2)) (drop (s - 2) (set (set b₃ (s - 1) 32) (s - 2) c)) ≡ headText c sp
     unfolding headText
     head-piece =
         let z : s - 2 ≡ s - 1 - 1 = omega arith in

@@ -1,5 +1,5 @@
 -- The parts of a plan: the rows of the table, the ways out of the code, and what is left to write. Assumes nothing.
-use Prim.Native.Nat.{ℕ, zero, suc, _<_, _≤_, _+_, _-_, _*_}
+use Prim.Native.Nat.{ℕ, zero, suc, _<_, _≤_, _+_, _-_}
 use mathlib.Core.Path.{_≡_, refl, sym, ap, _∙_}
 use mathlib.Core.Bool.{Bool, true, false, cond, not, _&&_, _||_}
 use mathlib.Core.List.{List, [], _∷_, _++_}
@@ -17,7 +17,7 @@ use Rattle.text.proofs.Table.{every, at, and-left, and-right}
 use Rattle.text.proofs.Clamp.{split}
 use Rattle.tree.specs.Decode.{textsOf}
 use Rattle.sema.specs.Messages.{nameAt}
-use Rattle.context.specs.View.{TextAt, textPlace}
+use Rattle.context.specs.View.{textPlace}
 use Rattle.lines.specs.declared.Plan.{Plan}
 use Rattle.lines.specs.Stored.{Wrote, Said, Shown}
 use Rattle.lines.specs.Plans.{aName, aWord, anOther, aFirst, aSecond, aThird, noPart, phrases, plans, phrase, wordAt, rowAt, pieceText, pieceRoom, partText, partRoom, rowRoom, joined, planText, hasName, Readable, Named}

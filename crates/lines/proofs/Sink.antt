@@ -4,6 +4,7 @@ use mathlib.Core.Path.{_≡_, refl, sym, _∙_}
 use mathlib.Core.List.{List, [], _∷_, _++_}
 use native.Mathlib.Omega.{arith}
 use native.Mathlib.Numerals.{add-one}
+use native.Mathlib.Nat.{add-zero}
 use lib.ListN.{length, getD, take, drop, set, length-set, length-append}
 use lib.Seq.{sets, drop-cons, set-out, take-nil}
 use Rattle.lines.specs.Stored.{Wrote, sets-append}
@@ -15,6 +16,9 @@ pub record Left (o : List ℕ) (n : ℕ) (m : List ℕ) (b : List ℕ) (k : ℕ)
 
 pub left-all : (o : List ℕ) (n : ℕ) (m : List ℕ) → Left o n m o n m
 left-all o n m = record { same = refl; long = refl }
+
+pub left-start : (o : List ℕ) (n : ℕ) (m : List ℕ) → Left o n m o (n + 0) m
+left-start o n m = rw (add-zero n) (left-all o n m)
 
 module _ {o : List ℕ} {n : ℕ} {m b : List ℕ} {k : ℕ} where
   pub left-as : {rest rest′ : List ℕ} → Left o n m b k rest → rest ≡ rest′ → Left o n m b k rest′

@@ -1,12 +1,12 @@
 -- The wording's phrases stand where the table says, and are short. Assumes nothing.
-use Prim.Native.Nat.{ℕ, zero, suc, _<_, _≤_, _+_, _-_, _*_}
+use Prim.Native.Nat.{ℕ, zero, suc, _<_, _≤_, _+_, _-_}
 use mathlib.Core.Path.{_≡_, refl, sym, ap, _∙_}
-use mathlib.Core.Bool.{Bool, true, false}
+use mathlib.Core.Bool.{Bool}
 use mathlib.Core.List.{List, [], _∷_, _++_, append-assoc}
-use mathlib.Core.Logic.{_⊎_, inl, inr, ⊎-elim}
+use mathlib.Core.Logic.{⊎-elim}
 use native.Mathlib.Omega.{arith}
 use native.Mathlib.Numerals.{add-one}
-use lib.ListN.{length, getD, take, drop, length-append, List·getD-eq-default}
+use lib.ListN.{length, getD, length-append, List·getD-eq-default}
 use lib.Seq.{drop-append-seam, take-append-seam}
 use lib.Dec.{T, leb, leb→le}
 use Rattle.text.specs.Text.{concat, part}

@@ -4,7 +4,7 @@ use mathlib.Core.Path.{_≡_}
 use mathlib.Core.Bool.{Bool, true, false, cond, _||_}
 use mathlib.Core.List.{List, [], _∷_, _++_}
 use lib.ListN.{length, getD, replicate}
-use lib.Dec.{T, eqb, ltb}
+use lib.Dec.{T, eqb}
 use Rattle.text.specs.Text.{text, concat}
 use Rattle.text.specs.Decimal.{decimal}
 use Rattle.span.specs.declared.Span.{Span}

@@ -147,7 +147,7 @@ pub fn warning(message: Message, span: Span) -> Diagnostic
     }
 }
 
-// How a text is made: the kind is a row of PLANS; the words are numbers of phrases.
+// How a text is made: the kind says its parts (`tables::row_of`); the words are numbers of phrases.
 struct Plan {
     kind: usize,
     name: usize,

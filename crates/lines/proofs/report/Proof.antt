@@ -2,7 +2,7 @@
 use borrow.Author.Needs.{needs}
 use native.Mathlib.Omega.{arith}
 use mathlib.Core.Path.{refl}
-use Rattle.lines.specs.Plans.{phrases, allWords, phrasePlaces, Lent}
+use Rattle.lines.specs.Plans.{phrases, allWords, phrasePlaces}
 use Rattle.lines.proofs.Lines.{reported, report-past}
 use Rattle.lines.proofs.report.Statement.{statement}
 use Rattle.lines.proofs.report.Tie as tie

@@ -1,12 +1,12 @@
 -- `lines::pieces::store` meets its contract. The invariant: the rest of s is still to be stored. Assumes nothing.
 use Prim.Native.Nat.{_≤_, _+_, _-_}
-use mathlib.Core.Path.{_≡_, refl, ap, _∙_}
+use mathlib.Core.Path.{_≡_, refl}
 use native.Mathlib.Omega.{arith}
-use native.Mathlib.Nat.{add-zero, add-assoc}
+use native.Mathlib.Nat.{add-assoc}
 use borrow.Author.Needs.{needs}
 use lib.ListN.{length, drop, length-set}
 use lib.Seq.{drop-length}
-use Rattle.lines.proofs.Sink.{Left, left-all, left-put, left-none}
+use Rattle.lines.proofs.Sink.{Left, left-start, left-put, left-none}
 use Rattle.lines.proofs.pieces.store.Statement.{statement}
 use Rattle.lines.proofs.pieces.store.Tie as tie
 
@@ -33,7 +33,7 @@ returns c =
 pub store-spec : {M : Type 1} → statement M
 store-spec =
     tie.close (tie.spec Inv-loop μ-loop
-    (λ c. (omega arith, refl, rw (add-zero (c .args .n)) (left-all _ _ _)))  -- loop-holds
+    (λ c. (omega arith, refl, left-start _ _ _))  -- loop-holds
     (λ c. search needs)  -- shared-slice-read-out
     (λ c. search needs)  -- add-out
     (λ c. search needs)  -- slice-write-out
