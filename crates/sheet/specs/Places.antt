@@ -5,7 +5,7 @@ use mathlib.Core.List.{List, [], _∷_}
 use mathlib.Core.Option.{Option, none, some}
 use mathlib.Core.Bool.{Bool, true, false, _&&_}
 use native.Mathlib.Omega.{arith}
-use lib.ListN.{length, getD}
+use lib.ListN.{length}
 use lib.Dec.{eqb}
 use borrow.Author.Tests.{eqb-true, eq-eqb}
 use Rattle.ast.specs.Tree.{TextNumber}
@@ -87,7 +87,7 @@ unplaced (l ∷ ls) (v ∷ vs) k h =
     (λ e. never (sym h ∙ has-here l ls k e))
     (λ e. place-there l ls k v vs e ∙ unplaced ls vs k (sym (has-there l ls k e) ∙ h))
 
--- where the first key that is k stands, its place stands in the sheet
+-- the number of the first key that is k says whether it is there
 pub position-has : (ks : List Key) (k : Key) → position ks k < length ks → hasKey ks k ≡ true
 position-has [] k h = absurd (omega arith)
 position-has (l ∷ ls) k h =
@@ -102,15 +102,6 @@ position-none (l ∷ ls) k h =
     by-test (sameKey l k)
     (λ e. absurd (omega (arith, position-here l ls k e)))
     (λ e. has-there l ls k e ∙ position-none ls k (omega (arith, position-there l ls k e)))
-
-pub placed : (ks : List Key) (sheet : List ℕ) (k : Key) → position ks k < length ks → getD sheet (position ks k) 0 ≡ placeIn ks sheet k
-unfolding placeIn
-placed [] sheet k h = absurd (omega arith)
-placed (l ∷ ls) [] k h = refl
-placed (l ∷ ls) (v ∷ vs) k h =
-    by-test (sameKey l k)
-    (λ e. rw (position-here l ls k e, place-here l ls k v vs e))
-    (λ e. rw (position-there l ls k e, place-there l ls k v vs e) (placed ls vs k (omega (arith, position-there l ls k e))))
 
 pub first-zero : (a b : ℕ) → a ≡ 0 → first a b ≡ b
 first-zero a b e = rw e
