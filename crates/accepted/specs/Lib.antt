@@ -11,3 +11,4 @@ pub mod Bodies
 pub mod Stmts
 pub mod Files
 pub mod Marked
+pub mod Counts

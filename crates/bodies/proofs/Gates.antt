@@ -32,19 +32,6 @@ use Rattle.bodies.specs.declared.gate_defs.GateParts.{GateParts}
 use Rattle.bodies.specs.Opened.{gateQubits, gateKnown, GateOpened}
 use Rattle.bodies.specs.Parts.{GatePartsOf, GateEntered}
 
--- the value of a Vec is as long as its count says
-module _ {A : Type 0} (d : A) (p : Reader A) (s : List ℕ) where
-  repeat-length : (n at : ℕ) → IsOk (repeat [] _∷_ p n s at) → length (valueOr [] (repeat [] _∷_ p n s at)) ≡ n
-  repeat-length zero at h = ap length (value-is (repeat-none s at [] _∷_ p 0 (omega arith)) [])
-  repeat-length (suc n) at h =
-      let l : 0 < suc n = omega arith in
-      let r : IsOk (repeat [] _∷_ p n s (nextOf (p s at))) = rw sub-one at (repeat-rest s at [] _∷_ p (suc n) h l _ refl) in
-      ap length (value-is (repeat-is s at [] _∷_ p (suc n) h l _ refl d) []) ∙ rw sub-one (ap suc (repeat-length n _ r))
-
-  pub vec-length : (at n : ℕ) → IsOk (vec p s at) → n ≡ getD s at 0 → n ≡ length (valueOr [] (vec p s at))
-  vec-length at n h e =
-      e ∙ sym (ap (λ x. length (valueOr [] x)) (counted-is s at [] _∷_ p h) ∙ repeat-length (getD s at 0) (at + 1) (counted-held s at [] _∷_ p h))
-
 -- the parts as they are read
 pub parts-of : (tree : List ℕ) (left at x k m n : ℕ) (sp : Span) → IsOk (stmt (textsOf tree) left tree at) → getD tree at 0 ≡ 6 → x ≡ numberAt 2 tree (at + 1) → k ≡ gateQubits tree left at → m ≡ nextOf (vec (name (textsOf tree)) tree k) → n ≡ nextOf (body (stmt (textsOf tree) (left - 1)) tree m) → sp ≡ spanAt tree n → GatePartsOf tree left at (record { name = x; «qubits_at» = k; «body_at» = m; span = sp })
 parts-of tree left at x k m n sp h b x-is k-is m-is n-is sp-is = record {

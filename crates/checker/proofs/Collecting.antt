@@ -13,7 +13,7 @@ use Rattle.sema.specs.Stmts.{analyze}
 use Rattle.answer.specs.Answer.{judgeDiagnostics, judgeProgram}
 use Rattle.context.specs.View.{TextsAt, keysIn}
 use Rattle.sheet.specs.Sheet.{KeysAdded}
-use Rattle.sheet.specs.Covering.{distinct-keys}
+use Rattle.sheet.specs.Different.{distinct-keys}
 use Rattle.tables.specs.Tables.{cleared}
 use Rattle.tables.specs.Laws.{cleared-scopes}
 use Rattle.accepted.specs.Files.{file-small}

@@ -55,15 +55,6 @@ unfolding rowAt
 row-is i t e f k g =
     rw (e, f) (any-default (getD plans i []) k 0 noPart (omega (arith, row-length i (ltb→lt i 59 t))))
 
--- a kind that is none of the first n, as a match over them says it
-abbrev pub Missed : ℕ → ℕ → Type 0
-Missed zero kind = Unit {0}
-Missed (suc n) kind = Missed n kind × (kind ≡ n → ⊥)
-
-pub missed : (n kind : ℕ) → Missed n kind → n ≤ kind
-missed zero kind u = omega arith
-missed (suc n) kind u = let l = missed n kind (u .0) in let d = u .1 in omega arith
-
 pub row-none : (kind k : ℕ) → 59 ≤ kind → noPart ≡ getD (rowAt kind) k noPart
 row-none kind k h = rw (row-past kind h)
 
@@ -99,18 +90,6 @@ module _ (t : List Text) (p : Plan) (c : ℕ) {r : List ℕ} where
       pub piece-phrase : Shown r (phrase c) 110 → (c ≡ anOther → ⊥) → Shown r (pieceText t p c) (pieceRoom c)
       unfolding pieceText pieceRoom
       piece-phrase s n3 = record { shows = rw (s .shows, ne-eqb c aName n1, ne-eqb c aWord n2, ne-eqb c anOther n3); short = rw (ne-eqb c aName n1, ne-eqb c aWord n2, ne-eqb c anOther n3) (omega (arith, ap length (s .shows))) }
-
-cond-le : (b : Bool) {x y : ℕ} (m : ℕ) → x ≤ m → y ≤ m → cond b x y ≤ m
-cond-le true m h g = h
-cond-le false m h g = g
-
-pub piece-small : (c : ℕ) → pieceRoom c ≤ 110
-unfolding pieceRoom
-piece-small c =
-    cond-le (eqb c aName) 110 (omega arith)
-    (cond-le (eqb c aWord) 110 (omega arith)
-    (cond-le (eqb c anOther) 110 (omega arith)
-    (phrase-short c)))
 
 pub ruleset piecing = (piece-name, piece-word, piece-other, piece-phrase)
 

@@ -7,7 +7,8 @@ use native.Mathlib.Numerals.{add-one}
 use native.Mathlib.Nat.{add-zero}
 use lib.ListN.{length, getD, take, drop, set, length-set, length-append}
 use lib.Seq.{sets, drop-cons, set-out, take-nil}
-use Rattle.lines.specs.Stored.{Wrote, sets-append}
+use Rattle.text.proofs.Sets.{sets-append}
+use Rattle.lines.specs.Stored.{Wrote}
 
 -- of the list m, to be stored in o from n on, the rest is still to be stored in b from k on
 pub record Left (o : List ℕ) (n : ℕ) (m : List ℕ) (b : List ℕ) (k : ℕ) (rest : List ℕ) : Type 0 where

@@ -15,7 +15,7 @@ use Rattle.sema.specs.Limits.{diagnosticLimit}
 use Rattle.sema.specs.Messages.{Diagnostic, Severity, Error, Warning}
 use Rattle.listing.specs.Listing.{ended, diagnosticLine, diagnosticLines, noteLines, tally, countOf, firstLine, listingOf}
 use Rattle.context.specs.Sink.{Written, store, bytesOf, emitOne, emit}
-use Rattle.lines.specs.Stored.{sets-append}
+use Rattle.text.proofs.Sets.{sets-append}
 
 pub emit-append : (t : List Text) (a b : List Diagnostic) (w : Written) → emit t (a ++ b) w ≡ emit t b (emit t a w)
 unfolding emit
@@ -99,17 +99,6 @@ pub emit-from : (t : List Text) (ds : List Diagnostic) (o : List ℕ) (n : ℕ) 
 emit-from t ds o n h =
     emit-within t ds (empty o n) (omega arith)
     ∙ rw (zero-add (countOf Error ds), zero-add (countOf Warning ds))
-
-tally-both : (s : Severity) (e v : ℕ) → tally Error s e + tally Warning s v ≡ suc (e + v)
-unfolding tally
-tally-both Error e v = omega arith
-tally-both Warning e v = omega arith
-
--- each diagnostic is an error or a warning
-pub count-both : (ds : List Diagnostic) → countOf Error ds + countOf Warning ds ≡ length ds
-unfolding countOf
-count-both [] = refl
-count-both (d ∷ ds) = tally-both (d .severity) (countOf Error ds) (countOf Warning ds) ∙ ap suc (count-both ds)
 
 -- the diagnostics listed
 abbrev pub listed : Written → ℕ

@@ -1,9 +1,8 @@
 -- Bytes stored one after the other, each where there is room.
-use Prim.Native.Nat.{ℕ, suc, _+_, _≤_}
-use mathlib.Core.Path.{_≡_, _∙_}
-use mathlib.Core.List.{List, [], _∷_, _++_}
-use native.Mathlib.Nat.{add-zero, add-suc, suc-add}
-use lib.ListN.{length, drop, set}
+use Prim.Native.Nat.{ℕ, _+_, _≤_}
+use mathlib.Core.Path.{_≡_}
+use mathlib.Core.List.{List, _++_}
+use lib.ListN.{length, drop}
 use lib.Seq.{sets}
 
 -- the list xs was stored in o from n on: o′ is what is there now, and r the place after
@@ -26,7 +25,3 @@ pub record Before (b : List ℕ) (end : ℕ) (b′ : List ℕ) (r : ℕ) (xs : L
 pub record Shown (r xs : List ℕ) (room : ℕ) : Type 0 where
   pub shows : r ≡ xs
   pub short : length r ≤ room
-
-pub sets-append : (xs ys l : List ℕ) (i : ℕ) → sets l i (xs ++ ys) ≡ sets (sets l i xs) (i + length xs) ys
-sets-append [] ys l i = rw (add-zero i)
-sets-append (x ∷ xs) ys l i = sets-append xs ys (set l i x) (suc i) ∙ rw (suc-add i (length xs), ← add-suc i (length xs))

@@ -22,7 +22,7 @@ use Rattle.lines.specs.declared.Message.{Message}
 use Rattle.lines.specs.declared.Note.{Note}
 use Rattle.lines.specs.declared.Diagnostic.{Diagnostic}
 use Rattle.lines.specs.Values.{expectedOf, diagnosticOf, errorOf, errorWithNoteOf, nameIn, nameInNote, Below, Fits, Reported}
-use Rattle.promises.specs.Emitted.{Emitted, emitted-none, emitted-one, emitted-then, emitted-as}
+use Rattle.promises.specs.Emitted.{Emitted, error-fits, noted-fits, emitted-none, emitted-report, emitted-then, emitted-as}
 use Rattle.operands.specs.Says.{kindSays, check-none, check-some}
 
 -- one test after another
@@ -40,14 +40,7 @@ pub slice-turned : (a b n : ℕ) → b < a → false ≡ (leb a b && ltb b n)
 slice-turned a b n l = rw (lt-leb a b l)
 
 -- what is reported names texts that are there
-module _ {k : ℕ} {d : Diagnostic} {m : Message} {sp : Span} where
-  pub plain-fits : d ≡ errorOf m sp → Below k (nameIn m) → Fits k d
-  plain-fits e h = rw e (record { named = h; noted = tt })
-
-  pub noted-fits : {n : Note} {at : Span} → d ≡ errorWithNoteOf m sp n at → Below k (nameIn m) → Below k (nameInNote n) → Fits k d
-  noted-fits e h g = rw e (record { named = h; noted = g })
-
-pub ruleset reporting = (plain-fits, noted-fits)
+pub ruleset reporting = (error-fits, noted-fits)
 
 -- what the checks of index, slice and bounds say
 module _ (t : List Text) (op : Operand) (sym : SymbolValue) (s : Sink) (o : List ℕ) (r : Sink) (o′ : List ℕ) where
@@ -61,14 +54,6 @@ module _ (t : List Text) (op : Operand) (sym : SymbolValue) (s : Sink) (o : List
   BoundsSaid = Emitted t (boundsSay (operandOf op) (symbolOf sym)) s o r o′
 
 module _ {t : List Text} {s : Sink} {o : List ℕ} where
-  -- one error
-  module _ {d : Diagnostic} {r : Sink} {o′ : List ℕ} {m : Message} {sp : Span} where
-    pub said : d ≡ errorOf m sp → Reported t d s o r o′ → Emitted t (diagnosticOf (errorOf m sp) ∷ []) s o r o′
-    said e p = rw e at (emitted-one p)
-
-    pub said-note : {n : Note} {at : Span} → d ≡ errorWithNoteOf m sp n at → Reported t d s o r o′ → Emitted t (diagnosticOf (errorWithNoteOf m sp n at) ∷ []) s o r o′
-    said-note e p = rw e at (emitted-one p)
-
   module _ (op : Operand) (sym : SymbolValue) where
     -- nothing is said: the kind fits, there is no index, it is below the size
     module _ (h : SinkFits s) where
@@ -100,35 +85,35 @@ module _ {t : List Text} {s : Sink} {o : List ℕ} where
           → d ≡ errorWithNoteOf (Message.ExpectedKind expected (op .name) (sym .kind)) (op .span) (Note.DeclaredAs (op .name) (sym .kind)) (sym .«decl_span»)
           → Emitted t (kindSays (operandOf op) (symbolOf sym) (expectedOf expected)) s o r o′
       unfolding kindSays
-      kind-unfit expected b f e g = rw (← f, e) (said-note g p)
+      kind-unfit expected b f e g = rw (← f, e) (emitted-report g p)
 
       pub index-scalar : {i : ℕ} → op .index ≡ Number.Some i → sym .size ≡ Number.None
           → d ≡ errorWithNoteOf (Message.CannotIndex (op .name)) (op .span) (Note.DeclaredWithoutSize (op .name)) (sym .«decl_span»)
           → IndexSaid t op sym s o r o′
       unfolding indexSays
-      index-scalar e f g = rw (e, f) (said-note g p)
+      index-scalar e f g = rw (e, f) (emitted-report g p)
 
       pub index-beyond : {i n : ℕ} → op .index ≡ Number.Some i → sym .size ≡ Number.Some n → n ≤ i
           → d ≡ errorWithNoteOf (Message.IndexOutOfBounds i (op .name) n) (op .span) (Note.DeclaredWithSize (op .name) n) (sym .«decl_span»)
           → IndexSaid t op sym s o r o′
       unfolding indexSays
-      index-beyond {i = i} {n = n} e f l g = rw (e, f, le-ltb i n l) (said-note g p)
+      index-beyond {i = i} {n = n} e f l g = rw (e, f, le-ltb i n l) (emitted-report g p)
 
       pub slice-scalar : {a b : ℕ} → op .slice ≡ Ends.Some a b → sym .size ≡ Number.None
           → d ≡ errorOf (Message.CannotSlice (op .name)) (op .span) → SliceSaid t op sym s o r o′
       unfolding sliceSays
-      slice-scalar e f g = rw (e, f) (said g p)
+      slice-scalar e f g = rw (e, f) (emitted-report g p)
 
       pub slice-beyond : {a b n : ℕ} → op .slice ≡ Ends.Some a b → sym .size ≡ Number.Some n → (w : Bool) → w ≡ (leb a b && ltb b n) → w ≡ false
           → d ≡ errorWithNoteOf (Message.SliceOutOfBounds a b (op .name) n) (op .span) (Note.DeclaredWithSize (op .name) n) (sym .«decl_span»)
           → SliceSaid t op sym s o r o′
       unfolding sliceSays
-      slice-beyond e f w g j k = rw (e, f, ← g, j) (said-note k p)
+      slice-beyond e f w g j k = rw (e, f, ← g, j) (emitted-report k p)
 
       pub bounds-wire : (b : Bool) → b ≡ (isGateQubit (kindOf (sym .kind)) && (isSome (numberOf (op .index)) || isSome (endsOf (op .slice)))) → b ≡ true
           → d ≡ errorOf (Message.CannotIndexGateQubit (op .name)) (op .span) → BoundsSaid t op sym s o r o′
       unfolding boundsSay
-      bounds-wire b f e g = rw (← f, e) (said g p)
+      bounds-wire b f e g = rw (← f, e) (emitted-report g p)
 
     -- one check after the other
     pub bounds-both : (b : Bool) → b ≡ (isGateQubit (kindOf (sym .kind)) && (isSome (numberOf (op .index)) || isSome (endsOf (op .slice)))) → b ≡ false
@@ -140,7 +125,7 @@ module _ {t : List Text} {s : Sink} {o : List ℕ} where
   module _ (ss : Symbols) (op : Operand) (expected : Expected) (found : FoundSymbol) (e : foundOf found ≡ get ss (op .name)) where
     pub check-missing : {d : Diagnostic} {r : Sink} {o′ : List ℕ} → found ≡ FoundSymbol.None
         → d ≡ errorOf (Message.NotDeclared (op .name)) (op .span) → Reported t d s o r o′ → Emitted t (checkOperand ss (operandOf op) (expectedOf expected)) s o r o′
-    check-missing f g p = emitted-as (said g p) (sym (check-none ss (operandOf op) (expectedOf expected) (sym e ∙ rw f)))
+    check-missing f g p = emitted-as (emitted-report g p) (sym (check-none ss (operandOf op) (expectedOf expected) (sym e ∙ rw f)))
 
     pub check-found : {v : SymbolValue} → found ≡ FoundSymbol.Some v
         → {r : Sink} {o′ : List ℕ} → Emitted t (kindSays (operandOf op) (symbolOf v) (expectedOf expected)) s o r o′

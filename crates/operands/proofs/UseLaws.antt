@@ -33,8 +33,7 @@ use Rattle.accepted.specs.Cases.{blankOperand}
 use Rattle.accepted.specs.Parts.{given-is, start, field, known, past, ends}
 use Rattle.accepted.specs.Fields.{span-in, span-is}
 use Rattle.accepted.specs.Operands.{operand-name-in}
-use Rattle.promises.specs.Emitted.{Emitted, emitted-none, emitted-as}
-use Rattle.operands.proofs.Checks.{said-note}
+use Rattle.promises.specs.Emitted.{Emitted, emitted-none, emitted-as, emitted-report}
 
 -- a measure statement whose case byte stands at a place
 module _ (s : List ℕ) (at : ℕ) (h : IsOk (measure (textsOf s) at s (at + 1))) where
@@ -133,7 +132,7 @@ module _ {t : List Text} {s : Sink} {o : List ℕ} (tree : List ℕ) (ks : List 
         → {v : Diagnostic} {r : Sink} {o′ : List ℕ} → v ≡ errorWithNoteOf (Message.UsedIndex x i) sp Note.MeasuredHere at → Reported t v s o r o′
         → Emitted t (usedIndexSays x sp (smallestCovered (marksOf tree ks sheet) x (a, b))) s o r o′
     unfolding usedIndexSays
-    slice-used at f g j p = rw (covered-is tree ks sheet x a b c d e, f, ← g) (said-note j p)
+    slice-used at f g j p = rw (covered-is tree ks sheet x a b c d e, f, ← g) (emitted-report j p)
 
   module _ (op : Operand) where
     pub use-slice : {a b : ℕ} {r : Sink} {o′ : List ℕ} → op .slice ≡ Ends.Some a b
@@ -151,7 +150,7 @@ module _ {t : List Text} {s : Sink} {o : List ℕ} (tree : List ℕ) (ks : List 
           → {v : Diagnostic} {r : Sink} {o′ : List ℕ} → v ≡ errorWithNoteOf (Message.Used op) sp Note.MeasuredHere at → Reported t v s o r o′
           → Emitted t (checkUseAfterMeasure (marksOf tree ks sheet) (operandOf op) sp) s o r o′
       unfolding usedSays
-      use-marked at z g j p = emitted-as (said-note j p) (use-by tree ks sheet op sp f q e (some at) (mark-some tree q z ∙ rw g))
+      use-marked at z g j p = emitted-as (emitted-report j p) (use-by tree ks sheet op sp f q e (some at) (mark-some tree q z ∙ rw g))
 
 pub ruleset slice-uses = (slice-unused, slice-used)
 

@@ -1,9 +1,12 @@
 -- A Vec of operands, one after the other. Assumes nothing.
 use Prim.Native.Nat.{ℕ, _+_, _-_, _≤_, _<_}
 use mathlib.Core.Path.{_≡_, refl, sym, ap, _∙_}
-use mathlib.Core.Bool.{Bool, true}
+use mathlib.Core.Bool.{Bool, true, false, cond}
+use mathlib.Core.Option.{Option, none, some}
+use native.Mathlib.Omega.{arith}
 use mathlib.Core.List.{List, [], _∷_, _++_}
 use lib.ListN.{length, getD}
+use lib.Dec.{ltb}
 use Rattle.span.specs.declared.Span.{Span}
 use Rattle.ast.specs.Tree.{Text, GateOperand}
 use Rattle.tree.specs.Ans.{Ans, ok, IsOk, nextOf, given}
@@ -23,22 +26,13 @@ use Rattle.accepted.specs.Cases.{blankOperand}
 use Rattle.accepted.specs.Parts.{valueOr, is-ok, next-is, value-is, given-ok}
 use Rattle.accepted.specs.Fields.{counted-is, repeat-none, repeat-first, repeat-is}
 use Rattle.accepted.specs.Remains.{Remains, remains-start, remains-more}
-use Rattle.accepted.specs.Operands.{operand-name, operand-is}
+use Rattle.accepted.specs.Counts.{vec-size}
 use Rattle.lines.specs.declared.Message.{Message}
 use Rattle.lines.specs.declared.Diagnostic.{Diagnostic}
 use Rattle.lines.specs.Values.{errorOf, Reported}
-use Rattle.promises.specs.Emitted.{Emitted, emitted-none, emitted-then, emitted-as}
+use Rattle.promises.specs.Emitted.{Emitted, emitted-none, emitted-then, emitted-as, emitted-report}
 use Rattle.operands.specs.declared.widths.Widths.{Widths}
 use Rattle.operands.specs.Widths.{uniform, agree, widths-say}
-use Rattle.operands.proofs.Checks.{said}
-
--- the name of an operand that was read
-pub read-name : (t : List Text) (s : List ℕ) (k : ℕ) (op : Operand) (next : ℕ) → operand t s k ≡ ok (operandOf op) next → op .name < length t
-read-name t s k op next e =
-    let h = is-ok e in
-    let is = operand-is t s k h _ refl _ refl in
-    let same : _ ≡ op .name = ap (λ (o : GateOperand). o .name) (sym (value-is is blankOperand) ∙ value-is e blankOperand) in
-    rw same at (operand-name t s k h)
 
 -- n operands from k on
 abbrev pub left : List Text → List ℕ → ℕ → ℕ → List GateOperand
@@ -126,6 +120,30 @@ module _ (t : List Text) (tree : List ℕ) (ss : Symbols) (at : ℕ) where
     unfolding registerWidths
     meeting-end l = ap (λ ops. agree met (registerWidths ss ops)) (sym (left-none t tree at n k (u .remains) l)) ∙ u .all
 
+-- one width alone is equal to all
+one-uniform : (w : Option ℕ) → uniform (wide w []) ≡ true
+unfolding wide uniform allEqual
+one-uniform none = refl
+one-uniform (some n) = go (ltb 1 n)
+  where
+    go : (b : Bool) → uniform (cond b (n ∷ []) []) ≡ true
+    go true = refl
+    go false = refl
+
+few-uniform : (ss : Symbols) (ops : List GateOperand) → length ops < 2 → uniform (registerWidths ss ops) ≡ true
+unfolding registerWidths uniform
+few-uniform ss [] l = refl
+few-uniform ss (op ∷ []) l = one-uniform (operandWidth ss op)
+few-uniform ss (op ∷ other ∷ ops) l = absurd (omega arith)
+
+pub meeting-few : (t : List Text) (tree : List ℕ) (ss : Symbols) (at n : ℕ) → IsOk (vec (operand t) tree at) → n ≡ getD tree at 0 → n < 2
+    → agree Widths.None [] ≡ given true (λ ops. uniform (registerWidths ss ops)) (vec (operand t) tree at)
+unfolding agree uniform
+meeting-few t tree ss at n h e l =
+    sym
+    (given-ok [] true (λ ops. uniform (registerWidths ss ops)) (vec (operand t) tree at) h
+    ∙ few-uniform ss (valueOr [] (vec (operand t) tree at)) (omega (arith, vec-size blankOperand (operand t) tree at h)))
+
 -- The verdict over all.
 module _ (ss : Symbols) (sp : Span) (x : Ans (List GateOperand)) (h : IsOk x) (met : Widths) (e : agree met [] ≡ given true (λ ops. uniform (registerWidths ss ops)) x) where
   broadcast-is : unless (agree met []) (error broadcasting sp) ≡ given [] (λ ops. widthsSay sp (registerWidths ss ops)) x
@@ -145,4 +163,4 @@ module _ (ss : Symbols) (sp : Span) (x : Ans (List GateOperand)) (h : IsOk x) (m
     pub broadcast-differ : met ≡ Widths.Differ → {d : Diagnostic} {r : Sink} {o′ : List ℕ} → d ≡ errorOf Message.Broadcasting sp → Reported t d s o r o′
         → Emitted t (given [] (λ ops. widthsSay sp (registerWidths ss ops)) x) s o r o′
     unfolding agree
-    broadcast-differ g f p = emitted-as (rw g (said f p)) broadcast-is
+    broadcast-differ g f p = emitted-as (rw g (emitted-report f p)) broadcast-is

@@ -23,10 +23,9 @@ use Rattle.lines.specs.declared.Message.{Message}
 use Rattle.lines.specs.declared.Note.{Note}
 use Rattle.lines.specs.declared.Diagnostic.{Diagnostic}
 use Rattle.lines.specs.Values.{errorWithNoteOf, Reported}
-use Rattle.promises.specs.Emitted.{Emitted, emitted-none}
+use Rattle.promises.specs.Emitted.{Emitted, emitted-none, emitted-report}
 use Rattle.operands.specs.declared.widths.Widths.{Widths}
 use Rattle.operands.specs.Widths.{widthsBy, measureWidths, uniform, agree}
-use Rattle.operands.proofs.Checks.{said-note}
 
 -- the width of a slice
 module _ (a b : ℕ) where
@@ -127,6 +126,6 @@ module _ {t : List Text} {s : Sink} {o : List ℕ} (ss : Symbols) (qubit target 
       pub widths-other : (m ≡ n → ⊥) → {d : Diagnostic} {r : Sink} {o′ : List ℕ} → d ≡ errorWithNoteOf (Message.MeasurementWidths m n) sp Note.TargetDeclared (target .span)
           → Reported t d s o r o′ → Emitted t (measureWidths ss (operandOf qubit) sp (operandOf target)) s o r o′
       unfolding widthsBy
-      widths-other k q p = rw (← e, ← g, f, j, ne-eqb m n k) (said-note q p)
+      widths-other k q p = rw (← e, ← g, f, j, ne-eqb m n k) (emitted-report q p)
 
 pub ruleset widths-said = (source-none, target-none, widths-same, widths-other)

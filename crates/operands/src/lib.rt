@@ -196,7 +196,7 @@ pub fn use_operands(
     s
 }
 
-// The widths above 1 of a Vec of operands.
+// The widths above 1 of a Vec of operands. One alone has none beside it.
 fn register_widths(tree: &[u8], scratch: &[u8], depth: usize, at: usize) -> Widths
     requires { ⌜ (length (textsOf (now tree)) ≤ 256) × (65536 ≤ length (now scratch)) × (depth ≤ 9) × IsOk (vec (operand (textsOf (now tree))) (now tree) at) ⌝ }
     ensures { λ r. ⌜ agree r [] ≡ given true (λ ops. uniform (registerWidths (scopesOf (now (scratch .entry)) depth) ops)) (vec (operand (textsOf (now (tree .entry)))) (now (tree .entry)) at) ⌝ }
@@ -204,6 +204,9 @@ fn register_widths(tree: &[u8], scratch: &[u8], depth: usize, at: usize) -> Widt
     let mut n = wide(tree[at]);
     let mut k = at + 1;
     let mut met = Widths::None;
+    if n < 2 {
+        return met;
+    }
     while 0 < n {
         let r = operand_at(tree, k);
         let op = r.operand;

@@ -1,13 +1,13 @@
 -- The parts of a gate call as they are read: how many they are, and where they stand. Assumes nothing.
-use Prim.Native.Nat.{ℕ, zero, suc, _+_, _<_}
+use Prim.Native.Nat.{ℕ, _+_, _<_}
 use mathlib.Core.Path.{_≡_, refl, sym, ap, _∙_}
-use mathlib.Core.List.{List, [], _∷_}
+use mathlib.Core.List.{List, []}
 use mathlib.Core.Option.{Option, none, some}
 use lib.ListN.{length, getD}
 use Rattle.span.specs.declared.Span.{Span}
 use Rattle.ast.specs.Tree.{Text, noExpr, moreExpr, GateModifier}
-use Rattle.tree.specs.Ans.{Reader, IsOk, nextOf}
-use Rattle.tree.specs.Read.{repeat, counted, vec}
+use Rattle.tree.specs.Ans.{IsOk, nextOf}
+use Rattle.tree.specs.Read.{vec}
 use Rattle.tree.specs.Exprs.{exprs}
 use Rattle.tree.specs.Stmts.{held, modifier, operand, stmt}
 use Rattle.sema.specs.Constants.{modifierControlCount, controls}
@@ -16,29 +16,14 @@ use Rattle.context.specs.View.{numberAt, spanAt, TextsAt, textPlace}
 use Rattle.tree.specs.Decode.{textsOf}
 use Rattle.text.specs.Text.{part}
 use Rattle.accepted.specs.Cases.{blank, blankOperand}
-use Rattle.accepted.specs.Parts.{valueOr, value-is, start, field, past, ends}
-use Rattle.accepted.specs.Fields.{counted-is, counted-held}
+use Rattle.accepted.specs.Parts.{valueOr}
+use Rattle.accepted.specs.Counts.{counted-size, vec-size}
 use Rattle.accepted.specs.Stmts.{gateCall-modifiers, gateCall-params, gateCall-args}
 use Rattle.constants.specs.declared.Total.{Total}
 use Rattle.constants.specs.declared.Controls.{Controls}
 use Rattle.constants.specs.Views.{totalOf, TotalOf}
 use Rattle.constants.specs.Laws.{total-of}
 use Rattle.operations.specs.Calls.{total, CallOf}
-
--- The count byte of a Vec is the size of its value, for a size that is 0 of none and one more for each value.
-module _ {A B : Type 0} (nil : B) (cons : A → B → B) (p : Reader A) (d : A) (size : B → ℕ) (none-is : size nil ≡ 0) (more-is : (a : A) (b : B) → size (cons a b) ≡ suc (size b)) (s : List ℕ) where
-  repeat-size : (n at : ℕ) → IsOk (repeat nil cons p n s at) → size (valueOr nil (repeat nil cons p n s at)) ≡ n
-  unfolding repeat
-  repeat-size zero at h = ap size (value-is (ends nil (start h)) nil) ∙ none-is
-  repeat-size (suc n) at h =
-      let rest = past _ _ d _ refl (start h) in
-      ap size (value-is (ends _ (past _ _ nil _ refl rest)) nil) ∙ more-is _ _ ∙ ap suc (repeat-size n _ (field _ _ rest))
-
-  pub counted-size : (at : ℕ) → IsOk (counted nil cons p s at) → size (valueOr nil (counted nil cons p s at)) ≡ getD s at 0
-  counted-size at h = ap (λ x. size (valueOr nil x)) (counted-is s at nil cons p h) ∙ repeat-size (getD s at 0) (at + 1) (counted-held s at nil cons p h)
-
-operands-size : (t : List Text) (s : List ℕ) (at : ℕ) → IsOk (vec (operand t) s at) → length (valueOr [] (vec (operand t) s at)) ≡ getD s at 0
-operands-size t s at h = counted-size [] _∷_ (operand t) blankOperand length refl (λ a b. refl) s at h
 
 exprs-size : (t : List Text) (s : List ℕ) (at : ℕ) → IsOk (exprs (held t) s at) → count (valueOr noExpr (exprs (held t) s at)) ≡ getD s at 0
 unfolding count
@@ -78,7 +63,7 @@ module _ (t : List Text) (left : ℕ) (s : List ℕ) (at : ℕ) (h : IsOk (stmt 
         end = f;
         span = l;
         params = i ∙ sym (exprs-size t s (c .next) ps);
-        args = j ∙ sym (operands-size t s m ops);
+        args = j ∙ sym (vec-size blankOperand (operand t) s m ops);
         controls = k ∙ ap total (total-of _ c ms p) ∙ controls-is _;
       }
 

@@ -35,14 +35,6 @@ use Rattle.promises.specs.WalkLaws.{same-walked}
 pub said-ok : {A : Type 0} {t : List Text} {says : A → List Diagnostic} {x : Ans A} {s : Sink} {o : List ℕ} {r : After} {o′ : List ℕ} (d : A) → IsOk x → SaidOf t says x s o r o′ → Emitted t (says (valueOr d x)) s o (r .sink) o′
 said-ok {says = says} {x = x} d h p = emitted-as (p .emitted) (given-ok d [] says x h)
 
--- the name of an operand that was read
-pub operand-below : (t : List Text) (s : List ℕ) (at : ℕ) (op : Operand) {k : ℕ} → operand t s at ≡ ok (operandOf op) k → op .name < length t
-operand-below t s at op e =
-    let h = is-ok e in
-    let is = operand-is t s at h _ refl _ refl in
-    let name : numberAt 2 s at ≡ op .name = ap (λ (o : GateOperand). o .name) (sym (value-is is blankOperand) ∙ value-is e blankOperand) in
-    rw name at (operand-name t s at h)
-
 -- the operands behind which a statement's span stands
 pub targets-said : (tree : List ℕ) {t : List Text} (ss : Symbols) (m : Marks) {x : Ans (List GateOperand)} {s : Sink} {o : List ℕ} {r : Sink} {o′ : List ℕ} {k : ℕ} {sp : Span} → k ≡ nextOf x → sp ≡ spanAt tree k → Emitted t (given [] (useOperands ss m sp) x) s o r o′ → SaidOf t (useOperands ss m (spanAt tree k)) x s o (record { next = k; sink = r }) o′
 targets-said tree ss m {x = x} e f p = record { next = e; emitted = emitted-as p (ap (λ sp. given [] (useOperands ss m sp) x) f) }

@@ -4,5 +4,5 @@ pub mod Places
 pub mod Effects
 pub mod Table
 pub mod Smallest
-pub mod Covering
+pub mod Different
 pub mod Kept

@@ -2,3 +2,4 @@ pub mod Clamp
 pub mod Same
 pub mod Sets
 pub mod Table
+pub mod Unlike

@@ -1,8 +1,9 @@
 -- `operands::register_widths` meets its contract. Assumes nothing.
 use native.Mathlib.Omega.{arith}
 use borrow.Author.Needs.{needs}
+use Rattle.accepted.specs.Operands.{operand-below}
 use Rattle.accepted.specs.Fields.{counted-in}
-use Rattle.operands.proofs.VecLaws.{Meeting, left-first, read-name, meeting-start, meeting-more, meeting-end}
+use Rattle.operands.proofs.VecLaws.{Meeting, left-first, meeting-few, meeting-start, meeting-more, meeting-end}
 use Rattle.tree.specs.Decode.{textsOf}
 use Rattle.context.specs.View.{scopesOf}
 use Rattle.operands.proofs.register_widths.Statement.{statement}
@@ -16,8 +17,8 @@ abbrev μ-loop : tie.MeasureT-loop
 
 operand-width-requires : tie.Need-operand-width-requires Inv-loop μ-loop
 operand-width-requires c κs =
-    let p = c .before .before .before .before .before .before .before .before .pre in
-    let l = read-name _ _ _ (c .before .operand-at .result .operand) _ (c .before .operand-at .ensures) in
+    let p = c .before .before .before .before .before .before .before .before .before .pre in
+    let l = operand-below _ _ _ (c .before .operand-at .result .operand) (c .before .operand-at .ensures) in
     (p .1, p .2, omega (arith, p .0))
 
 pub register-widths-spec : {M : Type 1} → statement M
@@ -26,6 +27,7 @@ register-widths-spec =
     (λ c. search counted-in)  -- shared-slice-read-wide
     (λ c κs. search needs)  -- wide-requires
     (λ c. let i = counted-in _ _ _ _ _ (c .before .before .before .before .pre .3) in omega arith)  -- add-k
+    (λ c. meeting-few _ _ _ _ _ (c .before .before .before .before .before .pre .3) (c .before .wide .ensures .0) (c .if1 .taken))  -- returns
     (λ c. search meeting-start)  -- loop-holds
     (λ c κs. search left-first)  -- operand-at-requires
     operand-width-requires
@@ -33,4 +35,4 @@ register-widths-spec =
     (λ c. search needs)  -- sub-n
     (λ c. search needs)  -- loop-less
     (λ c. search meeting-more)  -- loop-again
-    (λ c. meeting-end _ _ _ _ _ _ _ (c .before .loop .inv) (c .loop-test .left)))  -- returns
+    (λ c. meeting-end _ _ _ _ _ _ _ (c .before .loop .inv) (c .loop-test .left)))  -- returns-2

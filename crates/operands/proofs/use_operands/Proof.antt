@@ -1,8 +1,9 @@
 -- `operands::use_operands` meets its contract. Assumes nothing.
 use native.Mathlib.Omega.{arith}
 use borrow.Author.Needs.{needs}
+use Rattle.accepted.specs.Operands.{operand-below}
 use Rattle.accepted.specs.Fields.{counted-in}
-use Rattle.operands.proofs.VecLaws.{Using, left-first, read-name, using-start, using-more, using-end}
+use Rattle.operands.proofs.VecLaws.{Using, left-first, using-start, using-more, using-end}
 use Rattle.tree.specs.Decode.{textsOf}
 use Rattle.context.specs.View.{keysIn, scopesOf, marksOf}
 use Rattle.operands.proofs.use_operands.Statement.{statement}
@@ -19,7 +20,7 @@ use-operand-requires : tie.Need-use-operand-requires Inv-loop μ-loop
 use-operand-requires c κs =
     let p = c .before .before .before .before .before .before .before .before .before .before .before .pre in
     let i = c .before .before .before .before .loop .inv in
-    (p .0, p .1, p .2, p .3, p .4, p .5, read-name _ _ _ (c .before .before .operand-at .result .operand) _ (c .before .before .operand-at .ensures), i .fits)
+    (p .0, p .1, p .2, p .3, p .4, p .5, operand-below _ _ _ (c .before .before .operand-at .result .operand) (c .before .before .operand-at .ensures), i .fits)
 
 pub use-operands-spec : {M : Type 1} → statement M
 use-operands-spec =

@@ -2,7 +2,7 @@
 use mathlib.Core.Path.{refl}
 use Rattle.accepted.specs.Bodies.{stmt-in}
 use Rattle.accepted.specs.Stmts.{measure-qubit}
-use Rattle.operations.proofs.Simple.{operand-below}
+use Rattle.accepted.specs.Operands.{operand-below}
 use Rattle.operations.proofs.Measured.{measure-option, measure-in, measure-place, measure-covers, measure-walked}
 use borrow.Author.Needs.{needs}
 use native.Mathlib.Omega.{arith}

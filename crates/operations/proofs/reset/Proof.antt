@@ -3,7 +3,8 @@ use mathlib.Core.Path.{sym}
 use Rattle.accepted.specs.Parts.{next-is}
 use Rattle.accepted.specs.Bodies.{stmt-in}
 use Rattle.accepted.specs.Stmts.{reset-target, reset-inside}
-use Rattle.operations.proofs.Simple.{operand-below, reset-walked}
+use Rattle.accepted.specs.Operands.{operand-below}
+use Rattle.operations.proofs.Simple.{reset-walked}
 use borrow.Author.Needs.{needs}
 use native.Mathlib.Omega.{arith}
 use Rattle.operations.proofs.reset.Statement.{statement}

@@ -6,7 +6,7 @@ use lib.ListN.{length}
 use Rattle.tree.specs.Decode.{textsOf}
 use Rattle.context.specs.View.{scopesOf, functionsOf}
 use Rattle.tables.specs.Tables.{paramsOf}
-use Rattle.accepted.proofs.Unlike.{last-case}
+use Rattle.text.proofs.Unlike.{last-case}
 use Rattle.accepted.specs.Fields.{counted-in}
 use Rattle.accepted.specs.Exprs.{expr-in, expr-below, expr-left, intLit-inside, floatLit-inside, boolLit-inside, ident-inside, ident-name, index-inside, index-name, call-name, call-name-in, call-args, call-inside, const-inside, neg-inner, neg-inside, binary-lhs, binary-rhs, binary-inside, compare-lhs, compare-rhs, compare-inside}
 use Rattle.typing.proofs.Names.{name-below}

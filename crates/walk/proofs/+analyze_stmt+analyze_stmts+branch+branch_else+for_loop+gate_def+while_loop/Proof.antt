@@ -1,4 +1,4 @@
-use Rattle.accepted.proofs.Unlike.{last-case}
+use Rattle.text.proofs.Unlike.{last-case}
 use Prim.Native.Nat.{ℕ, _<_, _+_, _-_, _*_}
 use mathlib.Core.Path.{_≡_, refl}
 use mathlib.Core.List.{[]}

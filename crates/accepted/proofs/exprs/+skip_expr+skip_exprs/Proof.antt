@@ -9,7 +9,7 @@ use Rattle.accepted.specs.Parts.{next-is}
 use Rattle.accepted.specs.Fields.{counted-in}
 use Rattle.accepted.specs.Remains.{Remains, remains-start, remains-more, remains-end}
 use Rattle.accepted.specs.Exprs.{expr-in, expr-left, args-first, intLit-inside, intLit-is, floatLit-inside, floatLit-is, boolLit-inside, boolLit-is, ident-inside, ident-is, index-inside, index-is, call-args, call-inside, call-is, const-inside, const-is, neg-inner, neg-inside, neg-is}
-use Rattle.accepted.proofs.Unlike.{unlike}
+use Rattle.text.proofs.Unlike.{unlike}
 use Rattle.accepted.proofs.SkipExprs.{pair-lhs, pair-rhs, pair-inside, pair-next}
 use native.Mathlib.Omega.{arith}
 use borrow.Author.Needs.{needs}

@@ -9,7 +9,7 @@ use Rattle.accepted.specs.Parts.{next-is}
 use Rattle.accepted.specs.Remains.{Remains, remains-more, remains-end}
 use Rattle.accepted.specs.Bodies.{body-in, body-start, else-in, else-none, else-body, else-some, stmt-in, stmt-below, stmt-left, stmts-first}
 use Rattle.accepted.specs.Stmts.{include-inside, include-is, qubitDecl-size, qubitDecl-inside, qubitDecl-is, bitDecl-size, bitDecl-inside, bitDecl-is, assignment-value, assignment-inside, assignment-is, gateDef-params, gateDef-qparams, gateDef-body, gateDef-inside, gateDef-is, reset-target, reset-inside, reset-is, barrier-targets, barrier-inside, barrier-is, branch-condition, branch-body, branch-else, branch-inside, branch-is, forLoop-range, forLoop-body, forLoop-inside, forLoop-is, whileLoop-condition, whileLoop-body, whileLoop-inside, whileLoop-is}
-use Rattle.accepted.proofs.Unlike.{last-case}
+use Rattle.text.proofs.Unlike.{last-case}
 use native.Mathlib.Omega.{arith}
 use borrow.Author.Needs.{needs}
 use borrow.Fn.Kinds.{In, Out}

@@ -1,7 +1,8 @@
 -- `lines::tables::row_of` meets its contract. Assumes nothing.
 use mathlib.Core.Path.{refl, _∙_}
 use Rattle.lines.specs.Plans.{plans}
-use Rattle.lines.proofs.Parts.{row-is, row-none, nine-none, missed}
+use Rattle.text.proofs.Unlike.{unlike}
+use Rattle.lines.proofs.Parts.{row-is, row-none, nine-none}
 use Rattle.lines.proofs.tables.row_of.Statement.{statement}
 use Rattle.lines.proofs.tables.row_of.Tie as tie
 
@@ -68,4 +69,4 @@ row-of-spec =
     (λ c. row-is 56 tt (c .match .keys57) refl)  -- returns-57
     (λ c. row-is 57 tt (c .match .keys58) refl)  -- returns-58
     (λ c. row-is 58 tt (c .match .keys59) refl)  -- returns-59
-    (λ c. λ k h. nine-none k h ∙ row-none (c .before .args .kind) k (missed 59 _ (c .match .rest))))  -- returns-60
+    (λ c. λ k h. nine-none k h ∙ row-none (c .before .args .kind) k (unlike 59 _ (c .match .rest))))  -- returns-60

@@ -1,6 +1,6 @@
 -- `operations::measures::check_target_at` meets its contract. Assumes nothing.
 use Rattle.accepted.specs.Fields.{option-in, option-held}
-use Rattle.operations.proofs.Simple.{operand-below}
+use Rattle.accepted.specs.Operands.{operand-below}
 use Rattle.operations.proofs.Measured.{target-none, target-end, target-some}
 use borrow.Author.Needs.{needs}
 use native.Mathlib.Omega.{arith}
