@@ -1,14 +1,13 @@
 -- Before the body of a gate definition. Assumes nothing.
-use Prim.Native.Nat.{ℕ, zero, suc, _+_, _-_, _<_}
-use mathlib.Core.Path.{_≡_, refl, sym, ap, _∙_}
+use Prim.Native.Nat.{ℕ, suc, _+_, _-_, _<_}
+use mathlib.Core.Path.{_≡_, refl, ap, _∙_}
 use mathlib.Core.List.{List, [], _∷_}
 use native.Mathlib.Omega.{arith}
-use native.Mathlib.Numerals.{sub-one}
 use lib.ListN.{length, getD}
 use Rattle.span.specs.declared.Span.{Span}
 use Rattle.ast.specs.Tree.{Text, TextNumber}
-use Rattle.tree.specs.Ans.{Reader, IsOk, nextOf}
-use Rattle.tree.specs.Read.{repeat, vec}
+use Rattle.tree.specs.Ans.{IsOk, nextOf}
+use Rattle.tree.specs.Read.{vec}
 use Rattle.tree.specs.Exprs.{name}
 use Rattle.tree.specs.Stmts.{body, stmt}
 use Rattle.tree.specs.Decode.{textsOf}
@@ -24,8 +23,7 @@ use Rattle.lines.specs.declared.Message.{Message}
 use Rattle.lines.specs.declared.Diagnostic.{Diagnostic}
 use Rattle.lines.specs.Values.{errorOf, Reported}
 use Rattle.tables.specs.Tables.{Becomes, GateDefined}
-use Rattle.accepted.specs.Parts.{valueOr, value-is}
-use Rattle.accepted.specs.Fields.{counted-is, counted-held, repeat-none, repeat-rest, repeat-is}
+use Rattle.accepted.specs.Parts.{valueOr}
 use Rattle.accepted.specs.Stmts.{gateDef-name}
 use Rattle.promises.specs.Emitted.{Emitted, emitted-none, emitted-report}
 use Rattle.bodies.specs.declared.gate_defs.GateParts.{GateParts}

@@ -1,5 +1,5 @@
 -- The judgements: of a program, of a file, of a call. Assumes nothing.
-use Prim.Native.Nat.{ℕ, zero, suc, _+_, _≤_, _<_, min}
+use Prim.Native.Nat.{ℕ, _+_, _≤_, _<_}
 use mathlib.Core.Path.{_≡_, refl, sym, ap, subst, _∙_}
 use mathlib.Core.Bool.{false}
 use mathlib.Core.List.{List, [], _∷_, _++_}
@@ -10,8 +10,8 @@ use lib.Seq.{sets}
 use lib.Dec.{T}
 use borrow.Author.Tests.{lt-ltb, le-ltb}
 use Rattle.ast.specs.Tree.{Text, Program, noStmt}
-use Rattle.tree.specs.Ans.{Ans, ok, refused, given, IsOk, nextOf}
-use Rattle.tree.specs.Decode.{textsOf, decode}
+use Rattle.tree.specs.Ans.{Ans, ok, refused, given, IsOk}
+use Rattle.tree.specs.Decode.{decode}
 use Rattle.sema.specs.Keys.{keys}
 use Rattle.sema.specs.Stmts.{analyze}
 use Rattle.listing.specs.Listing.{ended, firstLine, listingOf}
@@ -19,7 +19,6 @@ use Rattle.answer.specs.Answer.{Answer, accepted, refusal, judgeDiagnostics, ju
 use Rattle.reader.specs.Answers.{validated}
 use Rattle.reader.specs.declared.Validated.{Validated}
 use Rattle.context.specs.declared.Sink.{Sink}
-use Rattle.context.specs.View.{keysIn}
 use Rattle.lines.specs.EmitLaws.{listing-stored}
 use Rattle.sheet.specs.Sheet.{KeysAdded}
 use Rattle.tables.specs.Tables.{cleared}

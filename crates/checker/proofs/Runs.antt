@@ -3,9 +3,9 @@ use Prim.Native.Nat.{ℕ, zero, suc, _+_, _≤_}
 use mathlib.Core.Path.{_≡_, refl, sym, ap, _∙_}
 use mathlib.Core.List.{List, _++_}
 use native.Mathlib.Omega.{arith}
-use lib.ListN.{length, drop, take, replicate}
+use lib.ListN.{length, drop, replicate}
 use lib.Seq.{drop-drop, sets, sets-eq, take-at}
-use Rattle.ast.specs.Tree.{Text, Program, noStmt}
+use Rattle.ast.specs.Tree.{Program, noStmt}
 use Rattle.tree.specs.Ans.{IsOk, nextOf}
 use Rattle.tree.specs.Texts.{texts}
 use Rattle.tree.specs.Stmts.{body, stmt}
@@ -19,11 +19,11 @@ use Rattle.context.specs.View.{keysIn, marksOf, contextOf}
 use Rattle.lines.specs.EmitLaws.{allBytes, emit-from, emit-over, emit-few}
 use Rattle.tables.specs.Tables.{tablesEnd, cleared}
 use Rattle.accepted.specs.Parts.{valueOr, given-ok}
-use Rattle.promises.specs.Emitted.{Emitted, emitted-as}
+use Rattle.promises.specs.Emitted.{emitted-as}
 use Rattle.promises.specs.Walks.{BodyWalked, walkBody}
 use Rattle.claims.specs.Claim.{programOf}
 use Rattle.verdict.specs.Verdict.{Learnt}
-use Rattle.checker.specs.Check.{SameRest, Ran, Staged, sinkAt}
+use Rattle.checker.specs.Check.{Ran, Staged, sinkAt}
 use Rattle.checker.proofs.Programs.{program-is, program-body, new-context}
 
 drop-zeros : (n : ℕ) (xs : List ℕ) → drop n (replicate n 0 ++ xs) ≡ xs

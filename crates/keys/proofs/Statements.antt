@@ -2,7 +2,6 @@
 use Prim.Native.Nat.{ℕ, zero, suc, _+_, _-_, _≤_, _<_}
 use mathlib.Core.Path.{_≡_, refl, sym, ap, _∙_}
 use mathlib.Core.List.{List, [], _∷_}
-use mathlib.Core.Option.{none}
 use native.Mathlib.Omega.{arith}
 use lib.ListN.{length, getD}
 use Rattle.span.specs.declared.Span.{Span}
@@ -17,10 +16,8 @@ use Rattle.sema.specs.Symbols.{Symbols, empty, get, gateScope, loopScope, after
 use Rattle.sema.specs.Marks.{Key, sizeOf}
 use Rattle.sema.specs.Keys.{addMeasured, keysStmt, keysStmts, keysElse}
 use Rattle.context.specs.declared.Number.{Number}
-use Rattle.context.specs.declared.FoundSymbol.{FoundSymbol}
-use Rattle.context.specs.declared.Symbol.{Symbol}
 use Rattle.context.specs.declared.GateOperand.{GateOperand}
-use Rattle.context.specs.Values.{kindOf, numberOf, endsOf, operandOf, foundOf}
+use Rattle.context.specs.Values.{kindOf, numberOf, endsOf, operandOf}
 use Rattle.context.specs.View.{numberAt, spanAt, typeOf, scopesOf, gatesOf, functionsOf, keysIn}
 use Rattle.tables.specs.Tables.{Becomes}
 use Rattle.accepted.specs.Cases.{blankOperand}
@@ -34,15 +31,6 @@ use Rattle.scopes.specs.Scopes.{Declares}
 use Rattle.keys.specs.declared.Keys.{Keys}
 use Rattle.keys.specs.Collected.{stmtKeys, bodyKeys, elseKeys, StmtCollected, BodyCollected, InnerCollected, ElseCollected}
 use Rattle.keys.proofs.Collecting.{none-added, within, of-stmt, full, followed, inside}
-
--- the size that a name shows
-pub size-none : (found : FoundSymbol) (ss : Symbols) (x : ℕ) → foundOf found ≡ get ss x → found ≡ FoundSymbol.None → none ≡ sizeOf (get ss x)
-unfolding sizeOf
-size-none found ss x e f = ap sizeOf (sym (ap foundOf f) ∙ e)
-
-pub size-some : (found : FoundSymbol) (ss : Symbols) (x : ℕ) → foundOf found ≡ get ss x → (symbol : Symbol) → found ≡ FoundSymbol.Some symbol → numberOf (symbol .size) ≡ sizeOf (get ss x)
-unfolding sizeOf
-size-some found ss x e symbol f = ap sizeOf (sym (ap foundOf f) ∙ e)
 
 module _ (tree : List ℕ) (left at : ℕ) (h : IsOk (stmt (textsOf tree) left tree at)) where
   -- no key is set

@@ -7,10 +7,6 @@ ghost use lib.ListN.{length, getD};
 ghost use Rattle.tree.specs.Ans.{IsOk};
 ghost use Rattle.tree.specs.Stmts.{body, elseBody, stmt};
 ghost use Rattle.tree.specs.Decode.{textsOf};
-ghost use Rattle.sema.specs.Symbols.{get};
-ghost use Rattle.sema.specs.Marks.{sizeOf};
-ghost use Rattle.context.specs.Values.{numberOf};
-ghost use Rattle.context.specs.View.{scopesOf};
 ghost use Rattle.sheet.specs.Sheet.{Indexed};
 ghost use Rattle.keys.specs.Collected.{StmtCollected, BodyCollected, InnerCollected, ElseCollected};
 use accepted::exprs::skip_expr;
@@ -21,8 +17,6 @@ use accepted::parts::skip_names;
 use accepted::parts::skip_range;
 use accepted::stmts::skip_body;
 use accepted::stmts::skip_stmt;
-use context::FoundSymbol;
-use context::Number;
 use scopes::declaration_at;
 use scopes::declare;
 use scopes::enter_gate;
@@ -36,17 +30,6 @@ pub struct Keys {
 }
 
 const OVER: usize = 257;
-
-// The size of the symbol that a name shows.
-fn size_of(scratch: &[u8], depth: usize, x: usize) -> Number
-    requires { ⌜ (65536 ≤ length (now scratch)) × (depth ≤ 9) × (x < 256) ⌝ }
-    ensures { λ r. ⌜ numberOf r ≡ sizeOf (get (scopesOf (now (scratch .entry)) depth) x) ⌝ }
-{
-    let FoundSymbol::Some(symbol) = tables::get(scratch, depth, x) else {
-        return Number::None;
-    };
-    symbol.size
-}
 
 // A statement that sets no key: what it declares.
 fn pass_stmt(tree: &[u8], scratch: &mut [u8], left: usize, at: usize) -> usize
@@ -75,7 +58,7 @@ fn measure(tree: &[u8], index: &mut [u64], scratch: &[u8], left: usize, k: Keys)
     let at = k.at;
     let o = operand_at(tree, at + 1);
     let op = o.operand;
-    let size = size_of(scratch, 9 - left, op.name);
+    let size = tables::size_of(scratch, 9 - left, op.name);
     let count = sheet::new_keys::add_measured(index, k.count, op, size);
     Keys {
         at: skip_stmt(tree, at, left),

@@ -1,7 +1,7 @@
 -- The parts of a plan: the rows of the table, the ways out of the code, and what is left to write. Assumes nothing.
 use Prim.Native.Nat.{ℕ, zero, suc, _<_, _≤_, _+_, _-_}
 use mathlib.Core.Path.{_≡_, refl, sym, ap, _∙_}
-use mathlib.Core.Bool.{Bool, true, false, cond, not, _&&_, _||_}
+use mathlib.Core.Bool.{Bool, true, false, not, _&&_, _||_}
 use mathlib.Core.List.{List, [], _∷_, _++_}
 use mathlib.Core.Logic.{⊎-elim}
 use native.Mathlib.Omega.{arith}
@@ -21,7 +21,7 @@ use Rattle.context.specs.View.{textPlace}
 use Rattle.lines.specs.declared.Plan.{Plan}
 use Rattle.lines.specs.Stored.{Wrote, Said, Shown}
 use Rattle.lines.specs.Plans.{aName, aWord, anOther, aFirst, aSecond, aThird, noPart, phrases, plans, phrase, wordAt, rowAt, pieceText, pieceRoom, partText, partRoom, rowRoom, joined, planText, hasName, Readable, Named}
-use Rattle.lines.proofs.Words.{phrase-none, phrase-short}
+use Rattle.lines.proofs.Words.{phrase-none}
 use Rattle.lines.proofs.Sink.{Left, left-all, left-as, left-step, left-none}
 
 -- the rule of a row: it has nine parts

@@ -2,10 +2,9 @@
 use Prim.Native.Nat.{ℕ, _≤_, _<_}
 use mathlib.Core.Path.{_≡_, sym, _∙_}
 use mathlib.Core.Bool.{Bool, true, false, _&&_, _||_}
-use mathlib.Core.List.{List, [], _∷_}
+use mathlib.Core.List.{List}
 use lib.Dec.{leb, ltb}
 use borrow.Author.Tests.{lt-ltb, le-ltb, le-leb, lt-leb}
-use Rattle.span.specs.declared.Span.{Span}
 use Rattle.ast.specs.Tree.{Text}
 use Rattle.sema.specs.Symbols.{Symbols, get}
 use Rattle.sema.specs.Operands.{fits, isGateQubit, isSome, indexSays, sliceSays, boundsSay, checkOperand}
@@ -21,7 +20,7 @@ use Rattle.lines.specs.declared.Expected.{Expected}
 use Rattle.lines.specs.declared.Message.{Message}
 use Rattle.lines.specs.declared.Note.{Note}
 use Rattle.lines.specs.declared.Diagnostic.{Diagnostic}
-use Rattle.lines.specs.Values.{expectedOf, diagnosticOf, errorOf, errorWithNoteOf, nameIn, nameInNote, Below, Fits, Reported}
+use Rattle.lines.specs.Values.{expectedOf, errorOf, errorWithNoteOf, Reported}
 use Rattle.promises.specs.Emitted.{Emitted, error-fits, noted-fits, emitted-none, emitted-report, emitted-then, emitted-as}
 use Rattle.operands.specs.Says.{kindSays, check-none, check-some}
 

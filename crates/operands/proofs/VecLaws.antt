@@ -23,7 +23,7 @@ use Rattle.context.specs.declared.Sink.{Sink}
 use Rattle.context.specs.Sink.{SinkFits}
 use Rattle.context.specs.Values.{numberOf, operandOf}
 use Rattle.accepted.specs.Cases.{blankOperand}
-use Rattle.accepted.specs.Parts.{valueOr, is-ok, next-is, value-is, given-ok}
+use Rattle.accepted.specs.Parts.{valueOr, next-is, value-is, given-ok}
 use Rattle.accepted.specs.Fields.{counted-is, repeat-none, repeat-first, repeat-is}
 use Rattle.accepted.specs.Remains.{Remains, remains-start, remains-more}
 use Rattle.accepted.specs.Counts.{vec-size}

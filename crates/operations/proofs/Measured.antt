@@ -16,18 +16,16 @@ use Rattle.tree.specs.Texts.{texts}
 use Rattle.tree.specs.Stmts.{operand, stmtCases, stmt}
 use Rattle.tree.specs.Decode.{textsOf}
 use Rattle.sema.specs.Messages.{Diagnostic, aQubit, aBit, warning, alreadyMeasured}
-use Rattle.sema.specs.Symbols.{Symbol, Symbols, get, after}
+use Rattle.sema.specs.Symbols.{Symbols, get, after}
 use Rattle.sema.specs.Marks.{Key, Marks, sizeOf, markMeasured, effect, apply, lookupMeasured}
 use Rattle.sema.specs.Operands.{isSome, unless, checkOperand}
 use Rattle.sema.specs.Stmts.{SemaContext, measureTarget, measureSays, analyzeStmt}
-use Rattle.context.specs.declared.FoundSymbol.{FoundSymbol}
-use Rattle.context.specs.declared.Symbol.{Symbol as SymbolValue}
 use Rattle.context.specs.declared.GateOperand.{GateOperand as Operand}
 use Rattle.context.specs.declared.Sink.{Sink}
 use Rattle.context.specs.declared.After.{After}
 use Rattle.context.specs.declared.State.{State}
 use Rattle.context.specs.Sink.{SinkFits}
-use Rattle.context.specs.Values.{numberOf, foundOf, operandOf}
+use Rattle.context.specs.Values.{operandOf}
 use Rattle.context.specs.View.{numberAt, PlaceOk, Placed, scopesOf, keysIn, marksOf, markBy, measureSpan, spanAt, contextOf}
 use Rattle.accepted.specs.Cases.{blankOperand}
 use Rattle.accepted.specs.Parts.{valueOr, is-ok, given-ok, given-is, next-is, value-is, start, known, past-here, checked}
@@ -49,16 +47,6 @@ use Rattle.promises.specs.Walks.{Ready, StmtKeyed, StmtWalked}
 use Rattle.promises.specs.WalkLaws.{same-walked}
 use Rattle.operands.specs.Widths.{measureWidths, measure-target}
 use Rattle.operations.proofs.Simple.{said-ok, context-by}
-
--- the size of a symbol that was found
-module _ {f : FoundSymbol} {g : Option Symbol} (e : foundOf f ≡ g) where
-  pub size-none : f ≡ FoundSymbol.None → none ≡ sizeOf g
-  unfolding sizeOf
-  size-none n = rw (← e, n)
-
-  pub size-some : (sym : SymbolValue) → f ≡ FoundSymbol.Some sym → numberOf (sym .size) ≡ sizeOf g
-  unfolding sizeOf
-  size-some sym n = rw (← e, n)
 
 -- a size by the symbols is the size that a measure goes by
 module _ (ss : Symbols) (op : GateOperand) {size : Option ℕ} (e : size ≡ sizeOf (get ss (op .name))) where

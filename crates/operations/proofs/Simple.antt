@@ -1,8 +1,8 @@
 -- Statements that leave the scratch as it is: what each way out shows. Assumes nothing.
-use Prim.Native.Nat.{ℕ, _+_, _-_, _<_}
-use mathlib.Core.Path.{_≡_, refl, sym, ap, _∙_}
+use Prim.Native.Nat.{ℕ, _+_, _-_}
+use mathlib.Core.Path.{_≡_, refl, sym, ap}
 use mathlib.Core.List.{List, []}
-use lib.ListN.{length, getD}
+use lib.ListN.{getD}
 use Rattle.span.specs.declared.Span.{Span}
 use Rattle.ast.specs.Tree.{Text, Stmt, GateOperand}
 use Rattle.tree.specs.Ans.{Ans, ok, IsOk, nextOf, given}
@@ -19,12 +19,11 @@ use Rattle.sema.specs.Stmts.{analyzeStmt}
 use Rattle.context.specs.declared.Sink.{Sink}
 use Rattle.context.specs.declared.After.{After}
 use Rattle.context.specs.declared.State.{State}
-use Rattle.context.specs.View.{numberAt, Placed, scopesOf, gatesOf, functionsOf, keysIn, marksOf, spanAt, contextOf}
+use Rattle.context.specs.View.{Placed, scopesOf, gatesOf, functionsOf, keysIn, marksOf, spanAt, contextOf}
 use Rattle.context.specs.Values.{operandOf}
 use Rattle.context.specs.declared.GateOperand.{GateOperand as Operand}
 use Rattle.accepted.specs.Cases.{blank, blankOperand}
-use Rattle.accepted.specs.Parts.{valueOr, is-ok, given-ok, next-is, value-is}
-use Rattle.accepted.specs.Operands.{operand-name, operand-is}
+use Rattle.accepted.specs.Parts.{valueOr, given-ok, next-is, value-is}
 use Rattle.accepted.specs.Stmts as of
 use Rattle.promises.specs.Emitted.{Emitted, emitted-none, emitted-as, emitted-then}
 use Rattle.promises.specs.Typings.{SaidOf}

@@ -10,8 +10,7 @@ ghost use Rattle.tree.specs.Read.{option};
 ghost use Rattle.tree.specs.Stmts.{operand};
 ghost use Rattle.tree.specs.Decode.{textsOf};
 ghost use Rattle.sema.specs.Messages.{warning, alreadyMeasured};
-ghost use Rattle.sema.specs.Symbols.{get};
-ghost use Rattle.sema.specs.Marks.{sizeOf, markMeasured, apply, lookupMeasured};
+ghost use Rattle.sema.specs.Marks.{markMeasured, apply, lookupMeasured};
 ghost use Rattle.sema.specs.Operands.{isSome, unless};
 ghost use Rattle.sema.specs.Stmts.{measureTarget, measureSays};
 ghost use Rattle.context.specs.Sink.{SinkFits};
@@ -24,25 +23,11 @@ ghost use Rattle.promises.specs.Walks.{Walkable};
 use accepted::numbers::span_at;
 use accepted::operands::operand_at;
 use context::After;
-use context::FoundSymbol;
 use context::GateOperand;
-use context::Number;
 use context::Sink;
 use lines::Expected;
 use lines::Message;
 use span::Span;
-
-// The size of the symbol that a name shows.
-fn size_of(scratch: &[u8], depth: usize, x: usize) -> Number
-    requires { ⌜ (65536 ≤ length (now scratch)) × (depth ≤ 9) × (x < 256) ⌝ }
-    ensures { λ r. ⌜ numberOf r ≡ sizeOf (get (scopesOf (now (scratch .entry)) depth) x) ⌝ }
-{
-    let FoundSymbol::Some(symbol) = tables::get(scratch, depth, x) else {
-        return Number::None;
-    };
-    let size = symbol.size;
-    size
-}
 
 // The marks after the measure statement at `at`.
 pub fn mark_measured(
@@ -59,7 +44,7 @@ pub fn mark_measured(
     ensures marks { λ r. ⌜ ((tree : List ℕ) → marksOf tree (keysIn (now (index .entry)) keys) r ≡ apply (markMeasured (scopesOf (now (scratch .entry)) depth) (operandOf qubit)) (measureSpan tree at) (marksOf tree (keysIn (now (index .entry)) keys) marks)) ⌝ }
 {
     let name = qubit.name;
-    let size = size_of(scratch, depth, name);
+    let size = tables::size_of(scratch, depth, name);
     sheet::set(marks, index, keys, qubit, size, at as u16)
 }
 

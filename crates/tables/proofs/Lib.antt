@@ -7,3 +7,4 @@ pub mod Alike
 pub mod Changes
 pub mod Back
 pub mod Becoming
+pub mod Found

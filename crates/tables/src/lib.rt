@@ -20,6 +20,7 @@ ghost use Rattle.tree.specs.Encode.{big};
 ghost use Rattle.tree.specs.Fits.{NumberFits, SpanFits, OptionFits};
 ghost use Rattle.sema.specs.Messages.{Qubit};
 ghost use Rattle.sema.specs.Symbols.{get, getCurrent};
+ghost use Rattle.sema.specs.Marks.{sizeOf as sizeIn};
 ghost use Rattle.context.specs.Values.{kindOf, numberOf as sizeOf, symbolOf, foundOf, gateOf, foundGateOf};
 ghost use Rattle.context.specs.View.{numberAt, spanAt, typeOf, kinds, sizeBy, symbolAt, scopesOf, gatesOf, functionsOf};
 ghost use Rattle.tables.specs.Entries.{SymbolFits, codeOf, spanBytes, sizeBytes, symbolBytes, gateBytes, typeBytes, functionBytes};
@@ -239,6 +240,17 @@ pub fn get_current(scratch: &[u8], depth: usize, x: usize) -> FoundSymbol
     ensures { λ r. ⌜ foundOf r ≡ getCurrent (scopesOf (now (scratch .entry)) depth) x ⌝ }
 {
     symbol_at(scratch, (depth - 1) * LEVEL + x * SYMBOL)
+}
+
+// The size of the symbol that a name shows.
+pub fn size_of(scratch: &[u8], depth: usize, x: usize) -> Number
+    requires { ⌜ (65536 ≤ length (now scratch)) × (depth ≤ 9) × (x < 256) ⌝ }
+    ensures { λ r. ⌜ sizeOf r ≡ sizeIn (get (scopesOf (now (scratch .entry)) depth) x) ⌝ }
+{
+    let FoundSymbol::Some(symbol) = get(scratch, depth, x) else {
+        return Number::None;
+    };
+    symbol.size
 }
 
 // Gives a name a symbol in the innermost scope.

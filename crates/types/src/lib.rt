@@ -19,7 +19,8 @@ const ASSIGNABLE: [[bool; 5]; 5] = [
     [false, false, false, false, true],
 ];
 
-fn number(ty: ClassicalType) -> usize
+// The number of a type, as in a tree file.
+pub fn number(ty: ClassicalType) -> usize
     ensures { λ r. ⌜ (r ≡ numberOf ty) × (r < 5) ⌝ }
 {
     match ty {

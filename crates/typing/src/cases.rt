@@ -19,7 +19,6 @@ ghost use Prim.Native.Nat.{_+_, _≤_, _<_};
 ghost use lib.ListN.{length};
 ghost use Rattle.ast.specs.Tree.{Expr};
 ghost use Rattle.tree.specs.Decode.{textsOf};
-ghost use Rattle.types.specs.Types.{numberOf};
 ghost use Rattle.sema.specs.Exprs.{untyped, identType, indexType, negType, arithmeticType, compareType, checkExpr};
 ghost use Rattle.context.specs.Sink.{SinkFits};
 ghost use Rattle.context.specs.Values.{kindOf, symbolOf, typedOf};
@@ -252,22 +251,10 @@ pub fn arithmetic(tree: &[u8], index: &[u64], out: &mut [u8], l: Typed, t: Typin
     has_type(ty, next, sink)
 }
 
-fn number(ty: ClassicalType) -> u8
-    ensures { λ r. ⌜ r ≡ numberOf ty ⌝ }
-{
-    match ty {
-        ClassicalType::Int => 0,
-        ClassicalType::UInt => 1,
-        ClassicalType::Float => 2,
-        ClassicalType::Angle => 3,
-        ClassicalType::Bool => 4,
-    }
-}
-
 fn comparable(a: ClassicalType, b: ClassicalType) -> bool
     ensures { λ r. ⌜ r ≡ comparable a b ⌝ }
 {
-    if number(a) == number(b) {
+    if types::number(a) == types::number(b) {
         return true;
     }
     if types::is_numeric(a) {

@@ -1,8 +1,8 @@
--- `operations::measures::size_of` meets its contract. Assumes nothing.
-use Rattle.operations.proofs.Measured.{size-none, size-some}
+-- `tables::size_of` meets its contract. Assumes nothing.
+use Rattle.tables.proofs.Found.{size-none, size-some}
 use borrow.Author.Needs.{needs}
-use Rattle.operations.proofs.measures.size_of.Statement.{statement}
-use Rattle.operations.proofs.measures.size_of.Tie as tie
+use Rattle.tables.proofs.size_of.Statement.{statement}
+use Rattle.tables.proofs.size_of.Tie as tie
 
 pub size-of-spec : {M : Type 1} → statement M
 size-of-spec =
