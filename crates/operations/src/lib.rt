@@ -14,6 +14,7 @@ ghost use Rattle.context.specs.Sink.{SinkFits};
 ghost use Rattle.context.specs.View.{Placed, scopesOf, keysIn, marksOf, spanAt};
 ghost use Rattle.promises.specs.Typings.{SaidOf};
 ghost use Rattle.promises.specs.Walks.{Walkable, Ready, StmtKeyed, StmtWalked};
+ghost use Rattle.operations.specs.States.{stateOf};
 use accepted::numbers::span_at;
 use accepted::operands::operand_at;
 use accepted::parts::skip_operands;
@@ -243,7 +244,44 @@ pub fn measure(
     }
 }
 
-// A gate call: its arity, its modifiers and parameters, and its operands.
+// A gate call. It leaves the marks as they are, so they are lent.
+pub fn use_call(
+    tree: &[u8],
+    index: &[u64],
+    scratch: &[u8],
+    out: &mut [u8],
+    keys: usize,
+    left: usize,
+    marks: &[u16; 256],
+    at: usize,
+    sink: Sink,
+) -> After
+    requires { ⌜ Walkable (now tree) (now index) keys × Ready (now tree) (now scratch) (stateOf at sink (now marks)) × IsOk (stmt (textsOf (now tree)) left (now tree) at) × (left ≤ 8) × (getD (now tree) at 0 ≡ 5) ⌝ }
+    ensures { λ r. ⌜ StmtWalked (now (tree .entry)) (now (index .entry)) keys left (stateOf at sink (now (marks .entry))) (now (scratch .entry)) (now (out .entry)) (stateOf (r .next) (r .sink) (now (marks .entry))) (now (scratch .entry)) (now (out .exit)) ⌝ }
+{
+    let call = call_at(tree, at, left);
+    let named = check_signature(tree, index, scratch, out, call, sink);
+    let checked = check_values(tree, index, scratch, out, 9 - left, at + 3, named);
+    let args_at = call.args_at;
+    let span = call.span;
+    let said = check_args(
+        tree,
+        index,
+        scratch,
+        out,
+        9 - left,
+        keys,
+        marks,
+        args_at,
+        span,
+        checked,
+    );
+    After {
+        next: call.end + 8,
+        sink: said,
+    }
+}
+
 pub fn gate_call(
     tree: &[u8],
     index: &[u64],
@@ -259,25 +297,10 @@ pub fn gate_call(
     let at = st.at;
     let sink = st.sink;
     let marks = st.marks;
-    let call = call_at(tree, at, left);
-    let named = check_signature(tree, index, scratch, out, call, sink);
-    let checked = check_values(tree, index, scratch, out, 9 - left, at + 3, named);
-    let args_at = call.args_at;
-    let span = call.span;
-    let said = check_args(
-        tree,
-        index,
-        scratch,
-        out,
-        9 - left,
-        keys,
-        &marks,
-        args_at,
-        span,
-        checked,
-    );
+    let a = use_call(tree, index, scratch, out, keys, left, &marks, at, sink);
+    let said = a.sink;
     State {
-        at: call.end + 8,
+        at: a.next,
         sink: said,
         marks,
     }

@@ -42,6 +42,11 @@ pub record Going (tree : List ℕ) (ks : List Key) (depth left : ℕ) (whole : A
 pub ready-as : {tree s : List ℕ} {st r : State} → Ready tree s st → r .sink ≡ st .sink → r .marks ≡ st .marks → Ready tree s r
 ready-as h e f = record { room = h .room; few = h .few; placed = rw f (h .placed); fits = rw e (h .fits) }
 
+-- the same under other names
+pub going-as : {tree : List ℕ} {ks : List Key} {depth left : ℕ} {whole : Ans Stmts} {st : State} {s o : List ℕ} {n : ℕ} {r r′ : State} {s′ o′ s″ o″ : List ℕ} → Going tree ks depth left whole st s o n r s′ o′ → s″ ≡ s′ → o″ ≡ o′ → r′ ≡ r
+    → Going tree ks depth left whole st s o n r′ s″ o″
+going-as g e f h = rw (e, f, h) g
+
 -- one statement more
 module _ (tree : List ℕ) (left n k : ℕ) (h : IsOk (repeat noStmt moreStmt (stmt (textsOf tree) left) n tree k)) (l : 0 < n) (m : ℕ) (e : m ≡ nextOf (stmt (textsOf tree) left tree k)) where
   abbrev t : List Text

@@ -155,7 +155,7 @@ fn analyze_stmt(
     }
 }
 
-// A body: statements behind their two-byte count.
+// A body: statements behind their two-byte count. A gate call does not change the marks, and they are not copied for it.
 pub fn analyze_stmts(
     tree: &[u8],
     index: &[u64],
@@ -173,7 +173,16 @@ pub fn analyze_stmts(
     let mut n = u16_at(tree, at);
     let mut s = bodies::past_count(st);
     while 0 < n {
-        s = analyze_stmt(tree, index, scratch, out, keys, left, s);
+        let k = s.at;
+        if tree[k] == 5 {
+            let sink = s.sink;
+            let a = operations::use_call(tree, index, scratch, out, keys, left, &s.marks, k, sink);
+            let said = a.sink;
+            s.at = a.next;
+            s.sink = said;
+        } else {
+            s = analyze_stmt(tree, index, scratch, out, keys, left, s);
+        }
         n -= 1;
     }
     s

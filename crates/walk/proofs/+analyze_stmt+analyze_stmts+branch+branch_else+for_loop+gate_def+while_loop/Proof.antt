@@ -2,12 +2,13 @@ use Rattle.text.proofs.Unlike.{last-case}
 use Prim.Native.Nat.{ℕ, _<_, _+_, _-_, _*_}
 use mathlib.Core.Path.{_≡_, refl}
 use mathlib.Core.List.{[]}
+use mathlib.Core.Logic.{⊎-elim}
 use native.Mathlib.Omega.{arith}
 use Rattle.tree.specs.Stmts.{body, stmt}
 use Rattle.tree.specs.Decode.{textsOf}
 use Rattle.context.specs.View.{keysIn}
 use Rattle.accepted.specs.Bodies.{body-in, else-in, stmt-in, stmt-below, stmt-left}
-use Rattle.walk.proofs.Loop.{Going, ready-as, going-start, going-stmt, going-keyed, going-more, going-end}
+use Rattle.walk.proofs.Loop.{Going, ready-as, going-as, going-start, going-stmt, going-keyed, going-more, going-end}
 use Rattle.walk.proofs.Enclosed.{opened-ready}
 use Rattle.walk.proofs.Cases.{gate-held, gate-keyed, gate-room, gate-walked, for-held, for-keyed, for-room, for-walked, while-held, while-keyed, while-room, while-walked, none-walked, some-held, some-keyed, some-walked}
 use Rattle.walk.proofs.Branches.{then-held, then-keyed, else-held, else-ready, else-keyed, if-room, if-walked}
@@ -212,7 +213,7 @@ module _ (t : ℕ) where
       (λ c. search needs)  -- returns-15
 
   abbrev analyze-stmts-calls : analyze-stmts-lts.Claims
-  analyze-stmts-calls = (accepted.numbers.u16_at.Reads.Asked, accepted.numbers.u16_at.Reads.Learnt, bodies.past_count.Reads.Asked, bodies.past_count.Reads.Learnt, analyze-stmt-below, analyze-stmt.Post)
+  analyze-stmts-calls = (accepted.numbers.u16_at.Reads.Asked, accepted.numbers.u16_at.Reads.Learnt, bodies.past_count.Reads.Asked, bodies.past_count.Reads.Learnt, operations.use_call.Reads.Asked, operations.use_call.Reads.Learnt, analyze-stmt-below, analyze-stmt.Post)
 
   abbrev analyze-stmts-asks : (analyze-stmts-lts.Claims → In 4 analyze-stmts-lts.ps → Out 4 analyze-stmts-lts.ps analyze-stmts-lts.r → analyze-stmts-lts.InvT-loop → analyze-stmts-lts.MeasureT-loop → Type 0) → Type 0
   analyze-stmts-asks Need = Need analyze-stmts-calls analyze-stmts-at analyze-stmts.Post analyze-stmts-Inv-loop analyze-stmts-μ-loop
@@ -220,11 +221,30 @@ module _ (t : ℕ) where
   analyze-stmts-loop-holds : analyze-stmts-asks analyze-stmts-lts.Need-loop-holds
   analyze-stmts-loop-holds c = going-start _ _ _ _ _ _ _ _ _ (c .before .before .before .before .before .before .pre .1 .0 .2) (c .before .u16-at .ensures .0) (c .past-count .ensures .0) (ready-as (c .before .before .before .before .before .before .pre .1 .0 .1) (c .past-count .ensures .1) (c .past-count .ensures .2)) (c .before .before .before .before .before .before .pre .1 .1)
 
+  analyze-stmts-shared-slice-read-if1 : analyze-stmts-asks analyze-stmts-lts.Need-shared-slice-read-if1
+  analyze-stmts-shared-slice-read-if1 c = stmt-in _ _ _ _ (going-stmt _ _ _ _ _ _ _ _ _ _ _ _ (c .before .before .loop .inv) (c .before .loop-test .taken))
+
+  analyze-stmts-use-call-requires : analyze-stmts-asks analyze-stmts-lts.Need-use-call-requires
+  analyze-stmts-use-call-requires c κs =
+      let p = c .before .before .before .before .before .before .before .before .before .before .before .before .before .before .before .pre .1 .0 in
+      let i = c .before .before .before .before .before .before .before .before .loop .inv in
+      (p .0, i .ready, going-stmt _ _ _ _ _ _ _ _ _ _ _ _ i (c .before .before .before .before .before .before .before .loop-test .taken), p .3, c .before .before .before .before .before .if1 .taken)
+
   analyze-stmts-analyze-stmt-requires : analyze-stmts-asks analyze-stmts-lts.Need-analyze-stmt-requires
-  analyze-stmts-analyze-stmt-requires c κs = (omega arith, ((c .before .before .before .before .before .before .before .before .before .before .pre .1 .0 .0, c .before .before .before .loop .inv .ready, going-stmt _ _ _ _ _ _ _ _ _ _ _ _ (c .before .before .before .loop .inv) (c .before .before .loop-test .taken), c .before .before .before .before .before .before .before .before .before .before .pre .1 .0 .3), going-keyed _ _ _ _ _ _ _ _ _ _ _ _ (c .before .before .before .loop .inv) (c .before .before .loop-test .taken)))
+  analyze-stmts-analyze-stmt-requires c κs =
+      let p = c .before .before .before .before .before .before .before .before .before .before .before .before .pre .1 .0 in
+      let i = c .before .before .before .before .before .loop .inv in
+      let l = c .before .before .before .before .loop-test .taken in
+      (omega arith, ((p .0, i .ready, going-stmt _ _ _ _ _ _ _ _ _ _ _ _ i l, p .3), going-keyed _ _ _ _ _ _ _ _ _ _ _ _ i l))
 
   analyze-stmts-loop-again : analyze-stmts-asks analyze-stmts-lts.Need-loop-again
-  analyze-stmts-loop-again c = going-more _ _ _ _ _ _ _ _ _ _ _ _ (c .before .before .before .before .before .before .before .before .loop .inv) (c .before .before .before .before .before .before .before .loop-test .taken) _ _ _ (c .before .before .before .before .analyze-stmt .ensures) (c .before .out .given)
+  analyze-stmts-loop-again c =
+      let i = c .before .before .before .loop .inv in
+      let l = c .before .before .loop-test .taken in
+      ⊎-elim
+      (λ w. going-as (going-more _ _ _ _ _ _ _ _ _ _ _ _ i l _ _ _ (w .6 .ensures) (w .7 .given)) (w .10) (w .11) (w .12))
+      (λ w. going-as (going-more _ _ _ _ _ _ _ _ _ _ _ _ i l _ _ _ (w .3 .ensures) (w .6 .given)) (w .8) (w .9) (w .10))
+      (c .if1 .came)
 
   analyze-stmts-returns : analyze-stmts-asks analyze-stmts-lts.Need-returns
   analyze-stmts-returns c = going-end _ _ _ _ _ _ _ _ _ _ _ _ (c .before .loop .inv) (c .loop-test .left) _ refl (c .before .before .past-count .ensures .1) (c .before .before .past-count .ensures .2)
@@ -234,7 +254,8 @@ module _ (t : ℕ) where
       analyze-stmts-lts.spec analyze-stmts-calls analyze-stmts-at analyze-stmts.Post analyze-stmts-Inv-loop analyze-stmts-μ-loop
       (λ c κs. body-in _ _ _ (c .before .before .before .before .pre .1 .0 .2))  -- u16-at-requires: let mut n = u16_at(tree, at);
       (λ c κs. omega (arith, body-in _ _ _ (c .before .before .before .before .before .pre .1 .0 .2), c .before .before .before .before .before .pre .1 .0 .0 .small))  -- past-count-requires: let mut s = bodies::past_count(st);
-      analyze-stmts-loop-holds analyze-stmts-analyze-stmt-requires
+      analyze-stmts-loop-holds analyze-stmts-shared-slice-read-if1 analyze-stmts-use-call-requires
+      analyze-stmts-analyze-stmt-requires
       (λ c. search needs)  -- sub-n: n -= 1;
       (λ c. search needs)  -- loop-less: while 0 < n {
       analyze-stmts-loop-again
