@@ -17,6 +17,9 @@ struct Times {
     rust: f64,
     /// From the same bytes to the listing.
     rust_bytes: f64,
+    /// Ours on the same file without its last byte: it is read, refused, and
+    /// the scratch is cleared.
+    refused: f64,
 }
 
 impl Times {
@@ -64,23 +67,28 @@ fn time(case: &Sized, scratch: &mut [u8], listing: &mut [u8]) -> Times {
     let program: ast::Program = convert::program(&case.tree);
     let answer = checker::check(&case.bytes, scratch, listing);
     assert!(matches!(answer, checker::Answer::Accepted { .. }), "{}: {answer}", case.name);
+    let cut = &case.bytes[..case.bytes.len() - 1];
+    let mut again = (vec![0; 65_536], vec![0; 65_536]);
     let times = measure(&mut [
         &mut || _ = black_box(checker::check(black_box(&case.bytes), scratch, listing)),
         &mut || drop(black_box(sema::analyze(black_box(&program)))),
         &mut || drop(black_box(from_bytes(black_box(&case.bytes)))),
+        &mut || _ = black_box(checker::check(black_box(cut), &mut again.0, &mut again.1)),
     ]);
     let bytes = case.bytes.len();
-    Times { name: case.name, bytes, ours: times[0], rust: times[1], rust_bytes: times[2] }
+    let [ours, rust, rust_bytes, refused] = times[..] else { unreachable!() };
+    Times { name: case.name, bytes, ours, rust, rust_bytes, refused }
 }
 
 fn line(name: &str, all: &[&Times]) {
     let of = |f: fn(&Times) -> f64| median(all.iter().map(|t| f(t)).collect());
     let worst = |f: fn(&Times) -> f64| all.iter().map(|t| f(t)).fold(f64::INFINITY, f64::min);
     println!(
-        "| {name} | {} | {:.0} | {:.1} | {:.1} | {:.1} | {:.2} | {:.2} | {:.2} | {:.2} |",
+        "| {name} | {} | {:.0} | {:.1} | {:.1} | {:.1} | {:.1} | {:.2} | {:.2} | {:.2} | {:.2} |",
         all.len(),
         of(|t| t.bytes as f64),
         of(|t| t.ours) / 1000.0,
+        of(|t| t.refused) / 1000.0,
         of(|t| t.rust) / 1000.0,
         of(|t| t.rust_bytes) / 1000.0,
         of(Times::ratio),
@@ -97,14 +105,17 @@ pub fn run(seed: u64) -> i32 {
     let times: Vec<Times> =
         cases.iter().map(|case| time(case, &mut scratch, &mut listing)).collect();
     println!(
-        "| trees | count | bytes | ours, us | analyze, us | from bytes, us \
+        "| trees | count | bytes | ours, us | refused, us | analyze, us | from bytes, us \
          | ratio to analyze | worst | ratio from bytes | worst |"
     );
-    println!("|---|---|---|---|---|---|---|---|---|---|");
+    println!("|---|---|---|---|---|---|---|---|---|---|---|");
     for name in bench_trees::NAMES {
         line(name, &times.iter().filter(|t| t.name == name).collect::<Vec<_>>());
     }
     line("1 KiB and more", &times.iter().filter(|t| t.bytes >= 1024).collect::<Vec<_>>());
+    println!();
+    let cleared = measure(&mut [&mut || black_box(&mut scratch).fill(0)]);
+    println!("Clearing the scratch once: {:.2} us", cleared[0] / 1000.0);
     println!();
     println!("| bytes | ours, ns a byte | analyze, ns a byte |");
     println!("|---|---|---|");
