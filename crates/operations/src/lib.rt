@@ -244,8 +244,8 @@ pub fn measure(
     }
 }
 
-// A gate call. It leaves the marks as they are, so they are lent.
-pub fn use_call(
+// A gate call: its arity, its modifiers and parameters, and its operands. It leaves the marks as they are, so they are lent.
+pub fn gate_call(
     tree: &[u8],
     index: &[u64],
     scratch: &[u8],
@@ -279,29 +279,5 @@ pub fn use_call(
     After {
         next: call.end + 8,
         sink: said,
-    }
-}
-
-pub fn gate_call(
-    tree: &[u8],
-    index: &[u64],
-    scratch: &[u8],
-    out: &mut [u8],
-    keys: usize,
-    left: usize,
-    st: State,
-) -> State
-    requires { ⌜ Walkable (now tree) (now index) keys × Ready (now tree) (now scratch) st × IsOk (stmt (textsOf (now tree)) left (now tree) (st .at)) × (left ≤ 8) × (getD (now tree) (st .at) 0 ≡ 5) ⌝ }
-    ensures { λ r. ⌜ StmtWalked (now (tree .entry)) (now (index .entry)) keys left st (now (scratch .entry)) (now (out .entry)) r (now (scratch .entry)) (now (out .exit)) ⌝ }
-{
-    let at = st.at;
-    let sink = st.sink;
-    let marks = st.marks;
-    let a = use_call(tree, index, scratch, out, keys, left, &marks, at, sink);
-    let said = a.sink;
-    State {
-        at: a.next,
-        sink: said,
-        marks,
     }
 }

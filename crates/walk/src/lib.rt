@@ -122,6 +122,7 @@ fn while_loop(
     bodies::closed_loop(st, r)
 }
 
+// Any statement but a gate call.
 fn analyze_stmt(
     tree: &[u8],
     index: &[u64],
@@ -131,7 +132,7 @@ fn analyze_stmt(
     left: usize,
     st: State,
 ) -> State
-    requires { ⌜ Walkable (now tree) (now index) keys × Ready (now tree) (now scratch) st × IsOk (stmt (textsOf (now tree)) left (now tree) (st .at)) × (left ≤ 8) ⌝ }
+    requires { ⌜ Walkable (now tree) (now index) keys × Ready (now tree) (now scratch) st × IsOk (stmt (textsOf (now tree)) left (now tree) (st .at)) × (left ≤ 8) × (getD (now tree) (st .at) 0 ≡ 5 → ⊥) ⌝ }
     requires { ⌜ StmtKeyed (keysIn (now index) keys) (scopesOf (now scratch) (9 - left)) (stmt (textsOf (now tree)) left (now tree) (st .at)) ⌝ }
     ensures { λ r. ⌜ StmtWalked (now (tree .entry)) (now (index .entry)) keys left st (now (scratch .entry)) (now (out .entry)) r (now (scratch .exit)) (now (out .exit)) ⌝ }
 {
@@ -142,7 +143,6 @@ fn analyze_stmt(
         2 => declarations::register(tree, index, scratch, out, keys, left, st),
         3 => declarations::classical_decl(tree, index, scratch, out, keys, left, st),
         4 => declarations::assignment(tree, index, scratch, out, keys, left, st),
-        5 => operations::gate_call(tree, index, scratch, out, keys, left, st),
         6 => gate_def(tree, index, scratch, out, keys, left, st),
         7 => declarations::function_def(tree, index, scratch, out, keys, left, st),
         8 => operations::measure(tree, index, scratch, out, keys, left, st),
@@ -176,7 +176,7 @@ pub fn analyze_stmts(
         let k = s.at;
         if tree[k] == 5 {
             let sink = s.sink;
-            let a = operations::use_call(tree, index, scratch, out, keys, left, &s.marks, k, sink);
+            let a = operations::gate_call(tree, index, scratch, out, keys, left, &s.marks, k, sink);
             let said = a.sink;
             s.at = a.next;
             s.sink = said;

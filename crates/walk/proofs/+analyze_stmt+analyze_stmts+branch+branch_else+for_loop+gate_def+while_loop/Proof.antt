@@ -107,7 +107,7 @@ module _ (t : ℕ) where
   while-loop-below κs a = (μ-while-loop κs a < t) × while-loop.Pre κs a
 
   abbrev analyze-stmt-calls : analyze-stmt-lts.Claims
-  analyze-stmt-calls = (operations.include.Reads.Asked, operations.include.Reads.Learnt, declarations.register.Reads.Asked, declarations.register.Reads.Learnt, declarations.classical_decl.Reads.Asked, declarations.classical_decl.Reads.Learnt, declarations.assignment.Reads.Asked, declarations.assignment.Reads.Learnt, operations.gate_call.Reads.Asked, operations.gate_call.Reads.Learnt, gate-def-below, gate-def.Post, declarations.function_def.Reads.Asked, declarations.function_def.Reads.Learnt, operations.measure.Reads.Asked, operations.measure.Reads.Learnt, operations.reset.Reads.Asked, operations.reset.Reads.Learnt, operations.barrier.Reads.Asked, operations.barrier.Reads.Learnt, operations.delay.Reads.Asked, operations.delay.Reads.Learnt, branch-below, branch.Post, for-loop-below, for-loop.Post, while-loop-below, while-loop.Post)
+  analyze-stmt-calls = (operations.include.Reads.Asked, operations.include.Reads.Learnt, declarations.register.Reads.Asked, declarations.register.Reads.Learnt, declarations.classical_decl.Reads.Asked, declarations.classical_decl.Reads.Learnt, declarations.assignment.Reads.Asked, declarations.assignment.Reads.Learnt, gate-def-below, gate-def.Post, declarations.function_def.Reads.Asked, declarations.function_def.Reads.Learnt, operations.measure.Reads.Asked, operations.measure.Reads.Learnt, operations.reset.Reads.Asked, operations.reset.Reads.Learnt, operations.barrier.Reads.Asked, operations.barrier.Reads.Learnt, operations.delay.Reads.Asked, operations.delay.Reads.Learnt, branch-below, branch.Post, for-loop-below, for-loop.Post, while-loop-below, while-loop.Post)
 
   abbrev analyze-stmt-asks : (analyze-stmt-lts.Claims → In 4 analyze-stmt-lts.ps → Out 4 analyze-stmt-lts.ps analyze-stmt-lts.r → Type 0) → Type 0
   analyze-stmt-asks Need = Need analyze-stmt-calls analyze-stmt-at analyze-stmt.Post
@@ -127,42 +127,39 @@ module _ (t : ℕ) where
   analyze-stmt-assignment-requires : analyze-stmt-asks analyze-stmt-lts.Need-assignment-requires
   analyze-stmt-assignment-requires c κs = (c .before .before .before .before .before .before .before .before .pre .1 .0 .0, c .before .before .before .before .before .before .before .before .pre .1 .0 .1, c .before .before .before .before .before .before .before .before .pre .1 .0 .2, c .before .before .before .before .before .before .before .before .pre .1 .0 .3, c .before .before .match .keys5)
 
-  analyze-stmt-gate-call-requires : analyze-stmt-asks analyze-stmt-lts.Need-gate-call-requires
-  analyze-stmt-gate-call-requires c κs = (c .before .before .before .before .before .before .before .before .pre .1 .0 .0, c .before .before .before .before .before .before .before .before .pre .1 .0 .1, c .before .before .before .before .before .before .before .before .pre .1 .0 .2, c .before .before .before .before .before .before .before .before .pre .1 .0 .3, c .before .before .match .keys6)
-
   analyze-stmt-gate-def-requires : analyze-stmt-asks analyze-stmt-lts.Need-gate-def-requires
-  analyze-stmt-gate-def-requires c κs = (omega arith, ((c .before .before .before .before .before .before .before .before .pre .1 .0 .0, c .before .before .before .before .before .before .before .before .pre .1 .0 .1, c .before .before .before .before .before .before .before .before .pre .1 .0 .2, c .before .before .before .before .before .before .before .before .pre .1 .0 .3, c .before .before .match .keys7), c .before .before .before .before .before .before .before .before .pre .1 .1))
+  analyze-stmt-gate-def-requires c κs = (omega arith, ((c .before .before .before .before .before .before .before .before .pre .1 .0 .0, c .before .before .before .before .before .before .before .before .pre .1 .0 .1, c .before .before .before .before .before .before .before .before .pre .1 .0 .2, c .before .before .before .before .before .before .before .before .pre .1 .0 .3, c .before .before .match .keys6), c .before .before .before .before .before .before .before .before .pre .1 .1))
 
   analyze-stmt-function-def-requires : analyze-stmt-asks analyze-stmt-lts.Need-function-def-requires
-  analyze-stmt-function-def-requires c κs = (c .before .before .before .before .before .before .before .before .pre .1 .0 .0, c .before .before .before .before .before .before .before .before .pre .1 .0 .1, c .before .before .before .before .before .before .before .before .pre .1 .0 .2, c .before .before .before .before .before .before .before .before .pre .1 .0 .3, c .before .before .match .keys8)
+  analyze-stmt-function-def-requires c κs = (c .before .before .before .before .before .before .before .before .pre .1 .0 .0, c .before .before .before .before .before .before .before .before .pre .1 .0 .1, c .before .before .before .before .before .before .before .before .pre .1 .0 .2, c .before .before .before .before .before .before .before .before .pre .1 .0 .3, c .before .before .match .keys7)
 
   analyze-stmt-measure-requires : analyze-stmt-asks analyze-stmt-lts.Need-measure-requires
-  analyze-stmt-measure-requires c κs = ((c .before .before .before .before .before .before .before .before .pre .1 .0 .0, c .before .before .before .before .before .before .before .before .pre .1 .0 .1, c .before .before .before .before .before .before .before .before .pre .1 .0 .2, c .before .before .before .before .before .before .before .before .pre .1 .0 .3, c .before .before .match .keys9), c .before .before .before .before .before .before .before .before .pre .1 .1)
+  analyze-stmt-measure-requires c κs = ((c .before .before .before .before .before .before .before .before .pre .1 .0 .0, c .before .before .before .before .before .before .before .before .pre .1 .0 .1, c .before .before .before .before .before .before .before .before .pre .1 .0 .2, c .before .before .before .before .before .before .before .before .pre .1 .0 .3, c .before .before .match .keys8), c .before .before .before .before .before .before .before .before .pre .1 .1)
 
   analyze-stmt-reset-requires : analyze-stmt-asks analyze-stmt-lts.Need-reset-requires
-  analyze-stmt-reset-requires c κs = (c .before .before .before .before .before .before .before .before .pre .1 .0 .0, c .before .before .before .before .before .before .before .before .pre .1 .0 .1, c .before .before .before .before .before .before .before .before .pre .1 .0 .2, c .before .before .before .before .before .before .before .before .pre .1 .0 .3, c .before .before .match .keys10)
+  analyze-stmt-reset-requires c κs = (c .before .before .before .before .before .before .before .before .pre .1 .0 .0, c .before .before .before .before .before .before .before .before .pre .1 .0 .1, c .before .before .before .before .before .before .before .before .pre .1 .0 .2, c .before .before .before .before .before .before .before .before .pre .1 .0 .3, c .before .before .match .keys9)
 
   analyze-stmt-barrier-requires : analyze-stmt-asks analyze-stmt-lts.Need-barrier-requires
-  analyze-stmt-barrier-requires c κs = (c .before .before .before .before .before .before .before .before .pre .1 .0 .0, c .before .before .before .before .before .before .before .before .pre .1 .0 .1, c .before .before .before .before .before .before .before .before .pre .1 .0 .2, c .before .before .before .before .before .before .before .before .pre .1 .0 .3, c .before .before .match .keys11)
+  analyze-stmt-barrier-requires c κs = (c .before .before .before .before .before .before .before .before .pre .1 .0 .0, c .before .before .before .before .before .before .before .before .pre .1 .0 .1, c .before .before .before .before .before .before .before .before .pre .1 .0 .2, c .before .before .before .before .before .before .before .before .pre .1 .0 .3, c .before .before .match .keys10)
 
   analyze-stmt-delay-requires : analyze-stmt-asks analyze-stmt-lts.Need-delay-requires
-  analyze-stmt-delay-requires c κs = (c .before .before .before .before .before .before .before .before .pre .1 .0 .0, c .before .before .before .before .before .before .before .before .pre .1 .0 .1, c .before .before .before .before .before .before .before .before .pre .1 .0 .2, c .before .before .before .before .before .before .before .before .pre .1 .0 .3, c .before .before .match .keys12)
+  analyze-stmt-delay-requires c κs = (c .before .before .before .before .before .before .before .before .pre .1 .0 .0, c .before .before .before .before .before .before .before .before .pre .1 .0 .1, c .before .before .before .before .before .before .before .before .pre .1 .0 .2, c .before .before .before .before .before .before .before .before .pre .1 .0 .3, c .before .before .match .keys11)
 
   analyze-stmt-branch-requires : analyze-stmt-asks analyze-stmt-lts.Need-branch-requires
-  analyze-stmt-branch-requires c κs = (omega arith, ((c .before .before .before .before .before .before .before .before .pre .1 .0 .0, c .before .before .before .before .before .before .before .before .pre .1 .0 .1, c .before .before .before .before .before .before .before .before .pre .1 .0 .2, c .before .before .before .before .before .before .before .before .pre .1 .0 .3, c .before .before .match .keys13), c .before .before .before .before .before .before .before .before .pre .1 .1))
+  analyze-stmt-branch-requires c κs = (omega arith, ((c .before .before .before .before .before .before .before .before .pre .1 .0 .0, c .before .before .before .before .before .before .before .before .pre .1 .0 .1, c .before .before .before .before .before .before .before .before .pre .1 .0 .2, c .before .before .before .before .before .before .before .before .pre .1 .0 .3, c .before .before .match .keys12), c .before .before .before .before .before .before .before .before .pre .1 .1))
 
   analyze-stmt-for-loop-requires : analyze-stmt-asks analyze-stmt-lts.Need-for-loop-requires
-  analyze-stmt-for-loop-requires c κs = (omega arith, ((c .before .before .before .before .before .before .before .before .pre .1 .0 .0, c .before .before .before .before .before .before .before .before .pre .1 .0 .1, c .before .before .before .before .before .before .before .before .pre .1 .0 .2, c .before .before .before .before .before .before .before .before .pre .1 .0 .3, c .before .before .match .keys14), c .before .before .before .before .before .before .before .before .pre .1 .1))
+  analyze-stmt-for-loop-requires c κs = (omega arith, ((c .before .before .before .before .before .before .before .before .pre .1 .0 .0, c .before .before .before .before .before .before .before .before .pre .1 .0 .1, c .before .before .before .before .before .before .before .before .pre .1 .0 .2, c .before .before .before .before .before .before .before .before .pre .1 .0 .3, c .before .before .match .keys13), c .before .before .before .before .before .before .before .before .pre .1 .1))
 
   analyze-stmt-while-loop-requires : analyze-stmt-asks analyze-stmt-lts.Need-while-loop-requires
-  analyze-stmt-while-loop-requires c κs = (omega arith, ((c .before .before .before .before .before .before .before .before .pre .1 .0 .0, c .before .before .before .before .before .before .before .before .pre .1 .0 .1, c .before .before .before .before .before .before .before .before .pre .1 .0 .2, c .before .before .before .before .before .before .before .before .pre .1 .0 .3, last-case 14 _ (c .before .before .match .rest) (stmt-below _ _ _ _ (c .before .before .before .before .before .before .before .before .pre .1 .0 .2))), c .before .before .before .before .before .before .before .before .pre .1 .1))
+  analyze-stmt-while-loop-requires c κs = (omega arith, ((c .before .before .before .before .before .before .before .before .pre .1 .0 .0, c .before .before .before .before .before .before .before .before .pre .1 .0 .1, c .before .before .before .before .before .before .before .before .pre .1 .0 .2, c .before .before .before .before .before .before .before .before .pre .1 .0 .3, (let r = c .before .before .match .rest in last-case 14 _ (((((((((r .0 .0 .0 .0 .0 .0 .0 .0, c .before .before .before .before .before .before .before .before .pre .1 .0 .4), r .0 .0 .0 .0 .0 .0 .0 .1), r .0 .0 .0 .0 .0 .0 .1), r .0 .0 .0 .0 .0 .1), r .0 .0 .0 .0 .1), r .0 .0 .0 .1), r .0 .0 .1), r .0 .1), r .1) (stmt-below _ _ _ _ (c .before .before .before .before .before .before .before .before .pre .1 .0 .2)))), c .before .before .before .before .before .before .before .before .pre .1 .1))
 
   analyze-stmt-closed : {M : Type 1} → analyze-stmt-lts.Closed analyze-stmt-calls analyze-stmt-at analyze-stmt.Post M
   analyze-stmt-closed =
       analyze-stmt-lts.spec analyze-stmt-calls analyze-stmt-at analyze-stmt.Post
       (λ c. stmt-in _ _ _ _ (c .before .before .before .before .before .pre .1 .0 .2))  -- shared-slice-read-match: match tree[at] {
       analyze-stmt-include-requires analyze-stmt-register-requires analyze-stmt-register-requires-2
-      analyze-stmt-classical-decl-requires analyze-stmt-assignment-requires analyze-stmt-gate-call-requires
+      analyze-stmt-classical-decl-requires analyze-stmt-assignment-requires
       analyze-stmt-gate-def-requires analyze-stmt-function-def-requires analyze-stmt-measure-requires
       analyze-stmt-reset-requires analyze-stmt-barrier-requires analyze-stmt-delay-requires
       analyze-stmt-branch-requires analyze-stmt-for-loop-requires analyze-stmt-while-loop-requires
@@ -208,12 +205,9 @@ module _ (t : ℕ) where
       (λ c. search needs)  -- same-length-27
       (λ c. search needs)  -- same-length-28
       (λ c. search needs)  -- returns-14
-      (λ c. search needs)  -- same-length-29
-      (λ c. search needs)  -- same-length-30
-      (λ c. search needs)  -- returns-15
 
   abbrev analyze-stmts-calls : analyze-stmts-lts.Claims
-  analyze-stmts-calls = (accepted.numbers.u16_at.Reads.Asked, accepted.numbers.u16_at.Reads.Learnt, bodies.past_count.Reads.Asked, bodies.past_count.Reads.Learnt, operations.use_call.Reads.Asked, operations.use_call.Reads.Learnt, analyze-stmt-below, analyze-stmt.Post)
+  analyze-stmts-calls = (accepted.numbers.u16_at.Reads.Asked, accepted.numbers.u16_at.Reads.Learnt, bodies.past_count.Reads.Asked, bodies.past_count.Reads.Learnt, operations.gate_call.Reads.Asked, operations.gate_call.Reads.Learnt, analyze-stmt-below, analyze-stmt.Post)
 
   abbrev analyze-stmts-asks : (analyze-stmts-lts.Claims → In 4 analyze-stmts-lts.ps → Out 4 analyze-stmts-lts.ps analyze-stmts-lts.r → analyze-stmts-lts.InvT-loop → analyze-stmts-lts.MeasureT-loop → Type 0) → Type 0
   analyze-stmts-asks Need = Need analyze-stmts-calls analyze-stmts-at analyze-stmts.Post analyze-stmts-Inv-loop analyze-stmts-μ-loop
@@ -224,8 +218,8 @@ module _ (t : ℕ) where
   analyze-stmts-shared-slice-read-if1 : analyze-stmts-asks analyze-stmts-lts.Need-shared-slice-read-if1
   analyze-stmts-shared-slice-read-if1 c = stmt-in _ _ _ _ (going-stmt _ _ _ _ _ _ _ _ _ _ _ _ (c .before .before .loop .inv) (c .before .loop-test .taken))
 
-  analyze-stmts-use-call-requires : analyze-stmts-asks analyze-stmts-lts.Need-use-call-requires
-  analyze-stmts-use-call-requires c κs =
+  analyze-stmts-gate-call-requires : analyze-stmts-asks analyze-stmts-lts.Need-gate-call-requires
+  analyze-stmts-gate-call-requires c κs =
       let p = c .before .before .before .before .before .before .before .before .before .before .before .before .before .before .before .pre .1 .0 in
       let i = c .before .before .before .before .before .before .before .before .loop .inv in
       (p .0, i .ready, going-stmt _ _ _ _ _ _ _ _ _ _ _ _ i (c .before .before .before .before .before .before .before .loop-test .taken), p .3, c .before .before .before .before .before .if1 .taken)
@@ -235,7 +229,7 @@ module _ (t : ℕ) where
       let p = c .before .before .before .before .before .before .before .before .before .before .before .before .pre .1 .0 in
       let i = c .before .before .before .before .before .loop .inv in
       let l = c .before .before .before .before .loop-test .taken in
-      (omega arith, ((p .0, i .ready, going-stmt _ _ _ _ _ _ _ _ _ _ _ _ i l, p .3), going-keyed _ _ _ _ _ _ _ _ _ _ _ _ i l))
+      (omega arith, ((p .0, i .ready, going-stmt _ _ _ _ _ _ _ _ _ _ _ _ i l, p .3, c .before .before .if1 .left), going-keyed _ _ _ _ _ _ _ _ _ _ _ _ i l))
 
   analyze-stmts-loop-again : analyze-stmts-asks analyze-stmts-lts.Need-loop-again
   analyze-stmts-loop-again c =
@@ -254,7 +248,7 @@ module _ (t : ℕ) where
       analyze-stmts-lts.spec analyze-stmts-calls analyze-stmts-at analyze-stmts.Post analyze-stmts-Inv-loop analyze-stmts-μ-loop
       (λ c κs. body-in _ _ _ (c .before .before .before .before .pre .1 .0 .2))  -- u16-at-requires: let mut n = u16_at(tree, at);
       (λ c κs. omega (arith, body-in _ _ _ (c .before .before .before .before .before .pre .1 .0 .2), c .before .before .before .before .before .pre .1 .0 .0 .small))  -- past-count-requires: let mut s = bodies::past_count(st);
-      analyze-stmts-loop-holds analyze-stmts-shared-slice-read-if1 analyze-stmts-use-call-requires
+      analyze-stmts-loop-holds analyze-stmts-shared-slice-read-if1 analyze-stmts-gate-call-requires
       analyze-stmts-analyze-stmt-requires
       (λ c. search needs)  -- sub-n: n -= 1;
       (λ c. search needs)  -- loop-less: while 0 < n {

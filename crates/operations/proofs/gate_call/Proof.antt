@@ -1,14 +1,14 @@
--- `operations::use_call` meets its contract. Assumes nothing.
+-- `operations::gate_call` meets its contract. Assumes nothing.
 use Rattle.accepted.specs.Stmts.{gateCall-name-in, gateCall-modifiers}
 use Rattle.operations.specs.States.{stateOf}
 use Rattle.operations.proofs.Called.{call-name, call-params, call-args, call-in, call-walked}
 use borrow.Author.Needs.{needs}
 use native.Mathlib.Omega.{arith}
-use Rattle.operations.proofs.use_call.Statement.{statement}
-use Rattle.operations.proofs.use_call.Tie as tie
+use Rattle.operations.proofs.gate_call.Statement.{statement}
+use Rattle.operations.proofs.gate_call.Tie as tie
 
-pub use-call-spec : {M : Type 1} → statement M
-use-call-spec =
+pub gate-call-spec : {M : Type 1} → statement M
+gate-call-spec =
     tie.close (tie.spec
     (λ c κs. let p = c .before .before .before .before .pre in (p .2, p .4))  -- call-at-requires
     (λ c κs. let p = c .before .before .before .before .before .before .pre in let a = c .before .call-at in (p .0 .texts, p .1 .room, call-name _ _ _ (p .2) (p .4) (a .result) (a .ensures), p .1 .fits))  -- check-signature-requires
