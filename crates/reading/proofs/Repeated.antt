@@ -1,17 +1,17 @@
 -- Whether a text is among the earlier ones: a law for each way out of the code. Assumes nothing.
 use Prim.Native.Nat.{ℕ, zero, suc, _<_, _≤_, _+_, _-_, _*_, _%_, _^_}
-use mathlib.Core.Path.{_≡_, refl, sym, ap, _∙_}
+use mathlib.Core.Path.{_≡_, refl, sym, ap, subst, _∙_}
 use mathlib.Core.List.{List, [], _∷_, map}
-use mathlib.Core.Bool.{Bool, true, false, _&&_, _||_}
+use mathlib.Core.Bool.{Bool, true, false, not, _&&_, _||_, or-false}
 use native.Mathlib.Omega.{arith}
-use native.Mathlib.Numerals.{sub-one}
-use lib.ListN.{length, getD, drop, length-drop}
+use native.Mathlib.Numerals.{add-one, sub-one}
+use lib.ListN.{length, getD, drop, drop-of-length-le, length-drop}
 use lib.Seq.{drop-cons}
-use lib.Dec.{eqb}
-use borrow.Author.Tests.{eqb-true}
+use lib.Dec.{T, eqb}
+use borrow.Author.Tests.{eq-eqb, ne-eqb, eqb-true, eqb-false}
 use Rattle.ast.specs.Tree.{Text}
 use Rattle.tree.specs.Texts.{same, among}
-use Rattle.reading.specs.Section.{textAt, past, textsFrom, pastTexts, sumFrom, checksum}
+use Rattle.reading.specs.Section.{textAt, past, textsFrom, pastTexts, sumFrom, checksum, hasSum}
 
 -- texts whose checksums differ are different
 sums-differ : (x y : Text) (h : ℕ) → (sumFrom h x ≡ sumFrom h y → ⊥) → false ≡ same x y
@@ -28,6 +28,54 @@ sums-differ (a ∷ x) (b ∷ y) h d = go (eqb a b) refl (λ f. sums-differ x y (
 pub text-other : (x y : Text) (sum other : ℕ) → sum ≡ checksum x → other ≡ checksum y → (sum ≡ other → ⊥) → false ≡ same x y
 unfolding checksum
 text-other x y sum other e f d = sums-differ x y 0 (λ g. d (e ∙ g ∙ sym f))
+
+-- a text whose checksum is among no others is not among their texts
+no-sum : (x : Text) (ts : List Text) → hasSum (checksum x) (map checksum ts) ≡ false → false ≡ among x ts
+unfolding hasSum among
+no-sum x [] e = refl
+no-sum x (t ∷ ts) e = go (eqb (checksum x) (checksum t)) refl (no-sum x ts) e
+  where
+    go : (b : Bool) → eqb (checksum x) (checksum t) ≡ b → (hasSum (checksum x) (map checksum ts) ≡ false → false ≡ among x ts) → (b || hasSum (checksum x) (map checksum ts)) ≡ false → false ≡ (same x t || among x ts)
+    go true f rest h = absurd (subst T h tt)
+    go false f rest h = rw (← text-other x t (checksum x) (checksum t) refl refl (eqb-false (checksum x) (checksum t) f)) (rest h)
+
+not-false : (r : Bool) → not r ≡ true → r ≡ false
+not-false false e = refl
+not-false true e = absurd (subst T (sym e) tt)
+
+pub not-repeated : (s : List ℕ) (x : Text) (n : ℕ) (sums : List ℕ) (sum : ℕ) → sums ≡ map checksum (textsFrom s n 2) → sum ≡ checksum x → (r : Bool) → r ≡ hasSum sum sums → not r ≡ true → false ≡ among x (textsFrom s n 2)
+not-repeated s x n sums sum e f r g h = no-sum x (textsFrom s n 2) (rw (← e, ← f) (sym g ∙ not-false r h))
+
+-- one more is asked
+pub or-same : (found : Bool) (sum other : ℕ) → sum ≡ other → true ≡ (eqb sum other || found)
+or-same found sum other e = rw (eq-eqb sum other e)
+
+pub or-other : (found : Bool) (sum other : ℕ) → (sum ≡ other → ⊥) → found ≡ (eqb sum other || found)
+or-other found sum other e = rw (ne-eqb sum other e)
+
+-- a checksum among others: what remains from `i` on decides
+pub record Hunting (sums : List ℕ) (sum : ℕ) (found : Bool) (i : ℕ) : Type 0 where
+  pub remain : hasSum sum sums ≡ (found || hasSum sum (drop i sums))
+
+pub hunting-start : (sums : List ℕ) (sum : ℕ) → Hunting sums sum false 0
+hunting-start sums sum = record { remain = refl }
+
+swapped : (a b c : Bool) → (a || (b || c)) ≡ ((b || a) || c)
+swapped true true c = refl
+swapped true false c = refl
+swapped false true c = refl
+swapped false false c = refl
+
+module _ (sums : List ℕ) (sum : ℕ) (found : Bool) (i : ℕ) (hunting : Hunting sums sum found i) where
+  pub hunting-more : i < length sums → (y : ℕ) → y ≡ getD sums i 0 → (r : Bool) → r ≡ (eqb sum y || found) → Hunting sums sum r (i + 1)
+  unfolding hasSum
+  hunting-more l y e r f = record { remain = hunting .remain ∙ rw (drop-cons sums i 0 l, add-one, f, e) (swapped found (eqb sum (getD sums i 0)) (hasSum sum (drop (suc i) sums))) }
+
+  pub hunting-end : length sums ≤ i → found ≡ hasSum sum sums
+  unfolding hasSum
+  hunting-end l = sym (hunting .remain ∙ rw (drop-of-length-le sums l) (or-false found))
+
+pub ruleset hunted = (hunting-start, hunting-more, hunting-end)
 
 pub text-same : (x y z : Text) (r : Bool) → r ≡ same x z → z ≡ y → r ≡ same x y
 text-same x y z r e f = rw (sym f) e

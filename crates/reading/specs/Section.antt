@@ -2,7 +2,7 @@
 use mathlib.Core.Path.{_≡_}
 use Prim.Native.Nat.{ℕ, zero, suc, _+_, _*_, _%_, _^_}
 use mathlib.Core.List.{List, [], _∷_, map}
-use mathlib.Core.Bool.{Bool, true, false}
+use mathlib.Core.Bool.{Bool, true, false, _||_}
 use lib.Dec.{eqb, leb}
 use lib.ListN.{length, getD, take, drop}
 use Rattle.ast.specs.Tree.{Text}
@@ -52,6 +52,11 @@ sumFrom h (c ∷ cs) = sumFrom ((h * 251 + c) % 2 ^ 56) cs
 
 unfoldable pub checksum : Text → ℕ
 checksum x = sumFrom 0 x
+
+-- is a checksum among others?
+unfoldable pub hasSum : ℕ → List ℕ → Bool
+hasSum x [] = false
+hasSum x (y ∷ ys) = eqb x y || hasSum x ys
 
 -- the count of the texts, as `texts` begins
 unfoldable pub textCount : Reader ℕ

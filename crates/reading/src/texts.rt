@@ -11,12 +11,14 @@ use crate::numbers::wide;
 use crate::spelling;
 ghost use mathlib.Core.Path.{_≡_};
 ghost use Prim.Native.Nat.{_≤_, _-_};
+ghost use mathlib.Core.Bool.{_||_};
+ghost use lib.Dec.{eqb};
 ghost use mathlib.Core.List.{map};
 ghost use lib.ListN.{length, take, drop};
 ghost use Rattle.tree.specs.Texts.{allowed, same, among, text, isName, isFloat, isPath};
 ghost use Rattle.tree.specs.Exprs.{textNumber};
 ghost use Rattle.reading.specs.Answers.{forget, gaveNumber, gaveText};
-ghost use Rattle.reading.specs.Section.{textAt, past, textsFrom, pastTexts, textCount, ofKind, kindsOf, checksum, Gathered};
+ghost use Rattle.reading.specs.Section.{textAt, past, textsFrom, pastTexts, textCount, ofKind, kindsOf, checksum, hasSum, Gathered};
 ghost use Rattle.tree.specs.Ans.{ok};
 ghost use Rattle.tree.specs.Decode.{textsOf};
 
@@ -77,6 +79,28 @@ fn is_text(s: &[u8], at: usize, other: u64, x: &[u8], sum: u64) -> bool
     false
 }
 
+fn or_equal(found: bool, sum: u64, other: u64) -> bool
+    ensures { λ r. ⌜ r ≡ (eqb sum other || found) ⌝ }
+{
+    if sum == other {
+        return true;
+    }
+    found
+}
+
+// Whether a checksum is among others. All are gone through, so that several are compared at once.
+fn has_sum(sums: &[u64], sum: u64) -> bool
+    ensures { λ r. ⌜ r ≡ hasSum sum (now (sums .entry)) ⌝ }
+{
+    let mut found = false;
+    let mut i = 0;
+    while i < sums.len() {
+        found = or_equal(found, sum, sums[i]);
+        i += 1;
+    }
+    found
+}
+
 // Whether a text equals one of the first `n`, whose checksums are lent.
 fn is_repeated(s: &[u8], x: &[u8], n: usize, sums: &[u64]) -> bool
     requires { ⌜ n ≤ 256 ⌝ }
@@ -85,6 +109,9 @@ fn is_repeated(s: &[u8], x: &[u8], n: usize, sums: &[u64]) -> bool
     ensures { λ r. ⌜ r ≡ among (now (x .entry)) (textsFrom (now (s .entry)) n 2) ⌝ }
 {
     let sum = spelling::checksum(x);
+    if !has_sum(sums, sum) {
+        return false;
+    }
     let mut k = 2;
     let mut i = n;
     while 0 < i {

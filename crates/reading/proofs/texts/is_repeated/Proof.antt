@@ -1,5 +1,5 @@
 -- `reading::texts::is_repeated` meets its contract. Assumes nothing.
-use Rattle.reading.proofs.Repeated.{Looking, looking-laws}
+use Rattle.reading.proofs.Repeated.{Looking, not-repeated, looking-laws}
 use borrow.Author.Needs.{needs}
 use Rattle.reading.proofs.texts.is_repeated.Statement.{statement}
 use Rattle.reading.proofs.texts.is_repeated.Tie as tie
@@ -14,14 +14,16 @@ pub is-repeated-spec : {M : Type 1} → statement M
 is-repeated-spec =
     tie.close (tie.spec Inv-loop μ-loop
     (λ c κs. search needs)  -- checksum-requires
+    (λ c κs. search needs)  -- has-sum-requires
+    (λ c. not-repeated _ _ _ _ _ (c .before .before .before .before .before .before .pre .1 .1) (c .before .before .checksum .ensures) _ (c .before .has-sum .ensures) (c .if1 .taken))  -- returns
     (λ c. search looking-laws)  -- loop-holds
     (λ c. search needs)  -- sub-is-text
     (λ c. search needs)  -- mul-is-text
     (λ c. search looking-laws)  -- shared-slice-read-is-text
     (λ c κs. search (needs, looking-laws))  -- is-text-requires
-    (λ c. search looking-laws)  -- returns
+    (λ c. search looking-laws)  -- returns-2
     (λ c κs. search (needs, looking-laws))  -- past-text-requires
     (λ c. search needs)  -- sub-i
     (λ c. search needs)  -- loop-less
     (λ c. search looking-laws)  -- loop-again
-    (λ c. search looking-laws))  -- returns-2
+    (λ c. search looking-laws))  -- returns-3
