@@ -7,7 +7,7 @@
 
 #define PUNTSALAK_SCRATCH 65536
 
-/* Nothing is asked of the caller but that the three buffers are apart. The scratch's first 65,536 bytes are zero afterwards
+/* Nothing is asked of the caller but that the buffers and the answer are apart. The scratch's first 65,536 bytes are zero afterwards
    (unless it is shorter: refusal 1); a refused call leaves the listing buffer as it was.
    answer: accepted 0, errors, warnings, listing length; refused number, place, 0, 0 */
 void puntsalak_check(const uint8_t *tree, size_t tree_len, uint8_t *scratch, size_t scratch_len,
