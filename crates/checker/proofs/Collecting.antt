@@ -14,8 +14,7 @@ use Rattle.answer.specs.Answer.{judgeDiagnostics, judgeProgram}
 use Rattle.context.specs.View.{TextsAt, keysIn}
 use Rattle.sheet.specs.Sheet.{KeysAdded}
 use Rattle.sheet.specs.Different.{distinct-keys}
-use Rattle.tables.specs.Tables.{cleared}
-use Rattle.tables.specs.Laws.{cleared-scopes}
+use Rattle.tables.specs.Tables.{Begun}
 use Rattle.accepted.specs.Files.{file-small}
 use Rattle.keys.specs.declared.Keys.{Keys}
 use Rattle.keys.specs.Collected.{BodyCollected}
@@ -26,20 +25,20 @@ use Rattle.verdict.specs.declared.Answer.{Answer as AnswerValue}
 use Rattle.claims.specs.Claim.{programOf}
 use Rattle.checker.specs.Check.{SameRest, Judged}
 use Rattle.checker.proofs.Programs.{program-is, program-body}
-use Rattle.checker.proofs.Runs.{rest-past, drop-cleared}
+use Rattle.checker.proofs.Runs.{rest-past}
 use Rattle.checker.proofs.Judging.{keys-many, keys-fit}
 
-module _ (tree : List ℕ) (h : IsOk (decode tree)) (at : ℕ) (e : at ≡ nextOf (texts tree 0)) (index index′ s s₁ s′ : List ℕ) (k r : Keys) (x : TextsAt tree index) (z : s₁ ≡ cleared s) (len : length s₁ ≡ length s) (c : BodyCollected tree 8 k index index′ s₁ s′ r) (ka : k .at ≡ at) (kc : k .count ≡ 0) where
+module _ (tree : List ℕ) (h : IsOk (decode tree)) (at : ℕ) (e : at ≡ nextOf (texts tree 0)) (index index′ s s₁ s′ : List ℕ) (k r : Keys) (x : TextsAt tree index) (z : Begun s s₁) (c : BodyCollected tree 8 k index index′ s₁ s′ r) (ka : k .at ≡ at) (kc : k .count ≡ 0) where
   added : KeysAdded index index′ (r .count) (keys (programOf tree))
   added =
-      keys-collected tree index index′ s₁ s′ k r c kc (rw z (cleared-scopes s)) (rw ka (program-body tree h at e)) (programOf tree)
+      keys-collected tree index index′ s₁ s′ k r c kc (z .scopes-are) (rw ka (program-body tree h at e)) (programOf tree)
       (rw ka (ap (λ (p : Program). p .statements) (program-is tree h at e)))
 
   same : SameRest s s′
   same =
       record {
-        same-length = c .scratch-length ∙ len;
-        same-rest = rest-past s₁ s′ (c .scratch-rest) ∙ rw z (drop-cleared s);
+        same-length = c .scratch-length ∙ z .same-length;
+        same-rest = rest-past s s′ (c .scratch-rest ∙ z .same-rest);
       }
 
   pub program-many : 256 < r .count → {l : List ℕ} → Judged (programOf tree) (judgeProgram (length l) (programOf tree)) s l (AnswerValue.Refused 7 0) s′ l

@@ -1,9 +1,9 @@
 -- The program of an accepted file, its keys, and the context that its walk begins with. Assumes nothing.
-use Prim.Native.Nat.{ℕ, zero, suc, _≤_}
+use Prim.Native.Nat.{ℕ, _≤_}
 use mathlib.Core.Path.{_≡_, sym, ap, subst}
-use mathlib.Core.List.{List, [], _∷_, _++_}
+use mathlib.Core.List.{List, [], _∷_}
 use native.Mathlib.Omega.{arith}
-use lib.ListN.{length, drop, replicate}
+use lib.ListN.{length}
 use Rattle.text.proofs.Table.{true-of}
 use Rattle.ast.specs.Tree.{Program, Stmts, noStmt}
 use Rattle.tree.specs.Ans.{IsOk, nextOf}
@@ -19,8 +19,8 @@ use Rattle.sema.specs.LawsKeys.{has-key-iff}
 use Rattle.sema.specs.Stmts.{new}
 use Rattle.context.specs.declared.State.{State}
 use Rattle.context.specs.View.{Placed, scopesOf, marksOf, contextOf}
-use Rattle.tables.specs.Tables.{cleared}
-use Rattle.tables.specs.Laws.{cleared-scopes, cleared-gates, cleared-functions, few-empty}
+use Rattle.tables.specs.Tables.{Begun}
+use Rattle.tables.specs.Laws.{few-empty}
 use Rattle.accepted.specs.Parts.{valueOr, value-is, given-is}
 use Rattle.accepted.specs.Files.{file-is, file-body}
 use Rattle.promises.specs.Walks.{Ready, BodyKeyed}
@@ -38,9 +38,9 @@ module _ (tree : List ℕ) (h : IsOk (decode tree)) (at : ℕ) (e : at ≡ nextO
   program-body = file-body tree h at e
 
   -- every key that the program's measure statements set is in its table
-  pub program-keyed : (ks : List Key) → ks ≡ keys (programOf tree) → length ks ≤ keyLimit → (s : List ℕ) → BodyKeyed ks (scopesOf (cleared s) 1) (body (stmt (textsOf tree) 8) tree at)
-  program-keyed ks f l s =
-      rw (cleared-scopes s)
+  pub program-keyed : (ks : List Key) → ks ≡ keys (programOf tree) → length ks ≤ keyLimit → {s t : List ℕ} → Begun s t → BodyKeyed ks (scopesOf t 1) (body (stmt (textsOf tree) 8) tree at)
+  program-keyed ks f l n =
+      rw (n .scopes-are)
       (record {
         each = λ b n g k set.
             true-of (hasKey ks k)
@@ -50,23 +50,15 @@ module _ (tree : List ℕ) (h : IsOk (decode tree)) (at : ℕ) (e : at ≡ nextO
             (rw program-is (subst (λ (x : Stmts). Sets x (empty ∷ []) k) (sym (value-is g noStmt)) set)))));
       })
 
--- a cleared scratch and a blank sheet are the context that an analysis begins with
-pub new-context : (tree : List ℕ) (ks : List Key) (s m : List ℕ) → marksOf tree ks m ≡ noMarks → contextOf tree ks (cleared s) 1 m ≡ new
-new-context tree ks s m e = λ i. record { symbols = cleared-scopes s i; gates = cleared-gates s i; functions = cleared-functions s i; measured = e i }
+-- a scratch with which a walk begins and a blank sheet are the context that an analysis begins with
+pub new-context : (tree : List ℕ) (ks : List Key) {s t : List ℕ} (m : List ℕ) → Begun s t → marksOf tree ks m ≡ noMarks → contextOf tree ks t 1 m ≡ new
+new-context tree ks m n e = λ i. record { symbols = n .scopes-are i; gates = n .gates-are i; functions = n .functions-are i; measured = e i }
 
-long : (n : ℕ) (xs : List ℕ) → n ≤ length (replicate n 0 ++ xs)
-long zero xs = omega arith
-long (suc n) xs = let h : n ≤ length (replicate n 0 ++ xs) = long n xs in omega arith
-
-pub cleared-length : (s : List ℕ) → 65536 ≤ length (cleared s)
-unfolding cleared
-cleared-length s = long 65536 (drop 65536 s)
-
-pub ready-new : (tree s : List ℕ) (st : State) → Placed tree (st .marks) → st .sink .errors ≡ 0 → st .sink .warnings ≡ 0 → st .sink .n ≤ 1024 → Ready tree (cleared s) st
-ready-new tree s st p e w n =
+pub ready-new : (tree : List ℕ) {s t : List ℕ} (st : State) → Begun s t → 65536 ≤ length s → Placed tree (st .marks) → st .sink .errors ≡ 0 → st .sink .warnings ≡ 0 → st .sink .n ≤ 1024 → Ready tree t st
+ready-new tree st b room p e w n =
     record {
-      room = cleared-length s;
-      few = rw (cleared-functions s) few-empty;
+      room = omega (arith, b .same-length);
+      few = rw (b .functions-are) few-empty;
       placed = p;
       fits = record { few = omega arith; short = omega arith };
     }

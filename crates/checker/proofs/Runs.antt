@@ -1,9 +1,9 @@
 -- One run of the walk over a whole program, and what it tells. Assumes nothing.
-use Prim.Native.Nat.{ℕ, zero, suc, _+_, _≤_}
-use mathlib.Core.Path.{_≡_, refl, sym, ap, _∙_}
+use Prim.Native.Nat.{ℕ, _+_, _≤_}
+use mathlib.Core.Path.{_≡_, sym, ap, _∙_}
 use mathlib.Core.List.{List, _++_}
 use native.Mathlib.Omega.{arith}
-use lib.ListN.{length, drop, replicate}
+use lib.ListN.{length, drop}
 use lib.Seq.{drop-drop, sets, sets-eq, take-at}
 use Rattle.ast.specs.Tree.{Program, noStmt}
 use Rattle.tree.specs.Ans.{IsOk, nextOf}
@@ -17,7 +17,7 @@ use Rattle.context.specs.declared.State.{State}
 use Rattle.context.specs.Sink.{Written, writtenOf, emit}
 use Rattle.context.specs.View.{keysIn, marksOf, contextOf}
 use Rattle.lines.specs.EmitLaws.{allBytes, emit-from, emit-over, emit-few}
-use Rattle.tables.specs.Tables.{tablesEnd, cleared}
+use Rattle.tables.specs.Tables.{tablesEnd, Begun}
 use Rattle.accepted.specs.Parts.{valueOr, given-ok}
 use Rattle.promises.specs.Emitted.{emitted-as}
 use Rattle.promises.specs.Walks.{BodyWalked, walkBody}
@@ -26,31 +26,23 @@ use Rattle.verdict.specs.Verdict.{Learnt}
 use Rattle.checker.specs.Check.{Ran, Staged, sinkAt}
 use Rattle.checker.proofs.Programs.{program-is, program-body, new-context}
 
-drop-zeros : (n : ℕ) (xs : List ℕ) → drop n (replicate n 0 ++ xs) ≡ xs
-drop-zeros zero xs = refl
-drop-zeros (suc n) xs = drop-zeros n xs
-
-pub drop-cleared : (s : List ℕ) → drop 65536 (cleared s) ≡ drop 65536 s
-unfolding cleared
-drop-cleared s = drop-zeros 65536 (drop 65536 s)
-
 -- what lies past the bytes of a call, by what lies past the tables
 pub rest-past : (s s′ : List ℕ) → drop tablesEnd s′ ≡ drop tablesEnd s → drop 65536 s′ ≡ drop 65536 s
 rest-past s s′ e = sym (drop-drop 14336 tablesEnd s′) ∙ ap (drop 14336) e ∙ drop-drop 14336 tablesEnd s
 
 pub ran : (tree index s o : List ℕ) (keys at n : ℕ) (st r : State) (s′ o′ : List ℕ) → IsOk (decode tree) → at ≡ nextOf (texts tree 0) → st .at ≡ at → st .sink ≡ sinkAt n → ((ks : List Key) → marksOf tree ks (st .marks) ≡ noMarks)
-    → length (cleared s) ≡ length s → BodyWalked tree index keys 8 st (cleared s) o r s′ o′ → Ran (programOf tree) n s o (r .sink) s′ o′
+    → {u : List ℕ} → Begun s u → BodyWalked tree index keys 8 st u o r s′ o′ → Ran (programOf tree) n s o (r .sink) s′ o′
 unfolding analyze
-ran tree index s o keys at n st r s′ o′ h e a b m l w =
+ran tree index s o keys at n st r s′ o′ h e a b m {u = u} l w =
     let t = textsOf tree in
     let ks = keysIn index keys in
     let x = body (stmt t 8) tree at in
-    let c : contextOf tree ks (cleared s) 1 (st .marks) ≡ new = new-context tree ks s (st .marks) (m ks) in
-    let g : walkBody t x (contextOf tree ks (cleared s) 1 (st .marks)) .1 ≡ analyzeStmts t (valueOr noStmt x) new .1 =
-    ap (λ f. f (contextOf tree ks (cleared s) 1 (st .marks)) .1) (given-ok noStmt _ (analyzeStmts t) x (program-body tree h at e)) ∙ ap (λ f. analyzeStmts t (valueOr noStmt x) f .1) c in
+    let c : contextOf tree ks u 1 (st .marks) ≡ new = new-context tree ks (st .marks) l (m ks) in
+    let g : walkBody t x (contextOf tree ks u 1 (st .marks)) .1 ≡ analyzeStmts t (valueOr noStmt x) new .1 =
+    ap (λ f. f (contextOf tree ks u 1 (st .marks)) .1) (given-ok noStmt _ (analyzeStmts t) x (program-body tree h at e)) ∙ ap (λ f. analyzeStmts t (valueOr noStmt x) f .1) c in
     record {
       emitted = rw (program-is tree h at e) (emitted-as (rw (a, b) at (w .emitted)) g);
-      scratch = record { same-length = w .same-length ∙ l; same-rest = rest-past (cleared s) s′ (w .same-rest) ∙ drop-cleared s };
+      scratch = record { same-length = w .same-length ∙ l .same-length; same-rest = rest-past s s′ (w .same-rest ∙ l .same-rest) };
     }
 
 -- what the first run tells of the diagnostics

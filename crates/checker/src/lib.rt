@@ -37,7 +37,7 @@ fn run(
     requires { ⌜ Walkable (now tree) (now index) keys × (65536 ≤ length (now scratch)) × IsOk (decode (now tree)) × (at ≡ nextOf (texts (now tree) 0)) × (n ≤ 1024) × (keysIn (now index) keys ≡ keysOf (programOf (now tree))) ⌝ }
     ensures { λ r. ⌜ Ran (programOf (now (tree .entry))) n (now (scratch .entry)) (now (out .entry)) r (now (scratch .exit)) (now (out .exit)) ⌝ }
 {
-    tables::clear(scratch);
+    tables::begin(scratch);
     let sink = Sink {
         n,
         errors: 0,
@@ -140,7 +140,7 @@ fn check_program(tree: &[u8], scratch: &mut [u8], listing: &mut [u8]) -> Answer
 {
     let mut index = [0u64; 768];
     let at = index::place_texts(tree, &mut index);
-    tables::clear(scratch);
+    tables::begin(scratch);
     let k = keys::collect(tree, &mut index, scratch, 8, Keys { at, count: 0 });
     let count = k.count;
     if 256 < count {

@@ -33,15 +33,18 @@ span-from s at p q = rw (p, q)
 abbrev pub typeOf : ℕ → ClassicalType
 typeOf n = getD (ClassicalType.Int ∷ ClassicalType.UInt ∷ ClassicalType.Float ∷ ClassicalType.Angle ∷ ClassicalType.Bool ∷ []) n ClassicalType.Int
 
--- The symbols: for each level and text number an entry of 18 bytes: kind, 1 if there is a size, the size, the span.
+-- The symbols, level by level: the kinds' codes of all text numbers, a byte each; then for each an entry of 17 bytes: 1 if there is a size, the size, the span.
 abbrev pub symbolSize : ℕ
-symbolSize = 18
+symbolSize = 17
 
 abbrev pub levelSize : ℕ
-levelSize = 256 * symbolSize
+levelSize = 256 + 256 * symbolSize
+
+abbrev pub codePlace : ℕ → TextNumber → ℕ
+codePlace level x = level * levelSize + x
 
 abbrev pub symbolPlace : ℕ → TextNumber → ℕ
-symbolPlace level x = level * levelSize + x * symbolSize
+symbolPlace level x = level * levelSize + 256 + x * symbolSize
 
 -- the kinds by their codes; 0 is no symbol
 abbrev pub kinds : List SymbolKind
@@ -58,17 +61,17 @@ sizeBy (suc flag) n = some n
 abbrev pub symbolBy : List ℕ → ℕ → ℕ → Option Symbol
 symbolBy s at zero = none
 symbolBy s at (suc code) =
-    some (record { kind = getD kinds code Qubit; size = sizeBy (getD s (at + 1) 0) (numberAt 8 s (at + 2)); decl-span = spanAt s (at + 10) })
+    some (record { kind = getD kinds code Qubit; size = sizeBy (getD s at 0) (numberAt 8 s (at + 1)); decl-span = spanAt s (at + 9) })
 
-abbrev pub symbolAt : List ℕ → ℕ → Option Symbol
-symbolAt s at = symbolBy s at (getD s at 0)
+abbrev pub symbolAt : List ℕ → ℕ → TextNumber → Option Symbol
+symbolAt s level x = symbolBy s (symbolPlace level x) (getD s (codePlace level x) 0)
 
 -- text numbers are below 256
 abbrev pub below256 : {A : Type 0} → TextNumber → Option A → Option A
 below256 x a = cond (ltb x 256) a none
 
 unfoldable pub scopeOf : List ℕ → ℕ → Scope
-scopeOf s level x = below256 x (symbolAt s (symbolPlace level x))
+scopeOf s level x = below256 x (symbolAt s level x)
 
 -- so many scopes, the innermost first
 unfoldable pub scopesOf : List ℕ → ℕ → Symbols

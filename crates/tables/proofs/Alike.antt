@@ -8,7 +8,7 @@ use native.Mathlib.Nat.{add-zero}
 use lib.ListN.{length, getD, take, drop, length-drop, List·getD-append}
 use lib.Seq.{sets, sets-eq, length-take-le, take-append-le, drop-append-le, drop-at, drop-drop, getD-drop}
 use Rattle.tree.specs.Read.{value}
-use Rattle.context.specs.View.{numberAt, spanAt, symbolBy, symbolAt, gateBy, functionBy}
+use Rattle.context.specs.View.{numberAt, spanAt, symbolBy, gateBy, functionBy}
 use Rattle.tables.proofs.Frame.{Outside, same-part}
 
 -- so many bytes of s from a on are those of t from b on
@@ -59,12 +59,9 @@ module _ {w : ℕ} {s : List ℕ} {a : ℕ} {t : List ℕ} {b : ℕ} (r : Alike 
       let p : numberAt 4 s (a + i + 4) ≡ numberAt 4 t (b + i + 4) = rw (e, f) at (number-alike (i + 4) 4 (omega arith)) in
       rw (number-alike i 4 (omega arith), p)
 
-  symbol-by : (code : ℕ) → 18 ≤ w → symbolBy s a code ≡ symbolBy t b code
+  pub symbol-by : (code : ℕ) → 17 ≤ w → symbolBy s a code ≡ symbolBy t b code
   symbol-by zero h = refl
-  symbol-by (suc code) h = rw (r .byte 1 (omega arith), number-alike 2 8 (omega arith), span-alike 10 (omega arith))
-
-  pub symbol-alike : 18 ≤ w → symbolAt s a ≡ symbolAt t b
-  symbol-alike h = rw (head-alike (omega arith)) (symbol-by (getD t b 0) h)
+  symbol-by (suc code) h = rw (head-alike (omega arith), number-alike 1 8 (omega arith), span-alike 9 (omega arith))
 
   gate-by : (code : ℕ) → 11 ≤ w → gateBy s a code ≡ gateBy t b code
   gate-by zero h = refl

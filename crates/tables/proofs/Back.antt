@@ -13,7 +13,7 @@ use Rattle.tree.specs.Encode.{big}
 use Rattle.tree.specs.Fits.{NumberFits, SpanFits, OptionFits}
 use Rattle.sema.specs.Messages.{SymbolKind, Qubit, Bit, Classical, Const, GateParam, GateQubit}
 use Rattle.sema.specs.Symbols.{Symbol, GateSig}
-use Rattle.context.specs.View.{typeOf, symbolBy, symbolAt, gateBy, functionBy}
+use Rattle.context.specs.View.{typeOf, symbolBy, gateBy, functionBy}
 use Rattle.tables.specs.Entries.{codeOf, symbolBytes, gateBytes, functionBytes}
 use Rattle.tree.proofs.Back.{value-big}
 use Rattle.tables.proofs.Codes.{type-number, kind-code}
@@ -33,12 +33,12 @@ abbrev symbol : SymbolKind → Option ℕ → Span → Symbol
 symbol k z sp = record { kind = k; size = z; decl-span = sp }
 
 module _ (k : SymbolKind) (sp : Span) where
-  pub length-symbol : (z : Option ℕ) → length (symbolBytes (symbol k z sp)) ≡ 18
+  pub length-symbol : (z : Option ℕ) → length (symbolBytes (symbol k z sp)) ≡ 17
   unfolding symbolBytes big
   length-symbol none = refl
   length-symbol (some n) = refl
 
-  pub symbol-back : (z : Option ℕ) → OptionFits (NumberFits 8) z → SpanFits sp → symbolAt (symbolBytes (symbol k z sp)) 0 ≡ some (symbol k z sp)
+  pub symbol-back : (z : Option ℕ) → OptionFits (NumberFits 8) z → SpanFits sp → symbolBy (symbolBytes (symbol k z sp)) 0 (codeOf k) ≡ some (symbol k z sp)
   unfolding symbolBytes big OptionFits
   symbol-back none f h =
       ap (symbolBy (symbolBytes (symbol k none sp)) 0) (code-suc k)

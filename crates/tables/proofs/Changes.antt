@@ -1,6 +1,6 @@
 -- What the tables are after a change of the scratch. Assumes nothing.
 use Prim.Native.Nat.{ℕ, zero, suc, _+_, _-_, _*_, _≤_, _<_}
-use mathlib.Core.Path.{_≡_, refl, sym, ap₂, fun-ext}
+use mathlib.Core.Path.{_≡_, refl, sym, ap₂, fun-ext, _∙_}
 use mathlib.Core.List.{List, _∷_}
 use mathlib.Core.Logic.{_⊎_, inl, inr, ⊎-elim}
 use mathlib.Core.Bool.{Bool, true, false}
@@ -12,10 +12,10 @@ use lib.Dec.{ltb, eqb}
 use borrow.Author.Tests.{ltb-true, lt-ltb, eqb-true, eqb-false}
 use Rattle.text.proofs.Clamp.{split}
 use Rattle.sema.specs.Symbols.{Symbol, GateSig, FunctionSig, Table, Scope, Symbols, insert}
-use Rattle.context.specs.View.{below256, typeOf, symbolAt, symbolPlace, scopeOf, scopesOf, gateBase, gatePlace, gateBy, gatesOf, functionBase, functionPlace, functionBy, functionsOf}
+use Rattle.context.specs.View.{below256, typeOf, symbolAt, codePlace, symbolPlace, scopeOf, scopesOf, gateBase, gatePlace, gateBy, gatesOf, functionBase, functionPlace, functionBy, functionsOf}
 use Rattle.tables.specs.Tables.{paramsOf, FewParams}
 use Rattle.tables.proofs.Frame.{Outside}
-use Rattle.tables.proofs.Alike.{untouched, symbol-alike, gate-alike, function-alike}
+use Rattle.tables.proofs.Alike.{untouched, symbol-by, gate-alike, function-alike}
 use Rattle.tables.proofs.Views.{function-at}
 
 -- entries are asked below 256 alone
@@ -49,9 +49,14 @@ apart base w y x a b n from to =
     (split x y)
 
 module _ {a b : ℕ} {s t : List ℕ} (r : Outside a b s t) where
+  -- a symbol neither of whose parts is touched
+  pub symbol-kept : (level x : ℕ) → (codePlace level x < a) ⊎ (b ≤ codePlace level x) → (symbolPlace level x + 17 ≤ a) ⊎ (b ≤ symbolPlace level x) → symbolAt t level x ≡ symbolAt s level x
+  symbol-kept level x o p =
+      rw (r .same (codePlace level x) o) (symbol-by (untouched r 17 (symbolPlace level x) p) (getD s (codePlace level x) 0) (omega arith))
+
   scope-kept : (level : ℕ) → level * 4608 + 4608 ≤ a → scopeOf t level ≡ scopeOf s level
   unfolding scopeOf
-  scope-kept level o = table-same _ _ (λ x h. symbol-alike (untouched r 18 (symbolPlace level x) (inl (omega arith))) (omega arith))
+  scope-kept level o = table-same _ _ (λ x h. symbol-kept level x (inl (omega arith)) (inl (omega arith)))
 
   pub scopes-kept : (depth : ℕ) → depth * 4608 ≤ a → scopesOf t depth ≡ scopesOf s depth
   unfolding scopesOf
@@ -73,15 +78,18 @@ module _ {a b : ℕ} {s t : List ℕ} (r : Outside a b s t) where
       function-alike (untouched r n (functionPlace x) (inr (omega arith))) (omega arith) (λ k. omega arith))
 
   -- the entry of a name, where the change was
-  pub scope-insert : (level x : ℕ) (v : Symbol) → x < 256 → symbolPlace level x ≤ a → b ≤ symbolPlace level x + 18 → symbolAt t (symbolPlace level x) ≡ some v → scopeOf t level ≡ insert (scopeOf s level) x v
-  unfolding scopeOf
-  scope-insert level x v l from to e =
-      table-insert _ _ x v l e (λ y n h. symbol-alike (untouched r 18 (symbolPlace level y) (apart (level * 4608) 18 y x a b n from to)) (omega arith))
-
   pub gate-insert : (x : ℕ) (g : GateSig) → x < 256 → gatePlace x ≤ a → b ≤ gatePlace x + 11 → gateBy t (gatePlace x) (getD t (gatePlace x) 0) ≡ some g → gatesOf t ≡ insert (gatesOf s) x g
   unfolding gatesOf
   gate-insert x g l from to e =
       table-insert _ _ x g l e (λ y n h. gate-alike (untouched r 11 (gatePlace y) (apart gateBase 11 y x a b n from to)) (omega arith))
+
+-- the symbol of a name, whose code was set and whose entry was stored
+pub scope-insert : {c at : ℕ} {s t u : List ℕ} → Outside c (c + 1) s t → Outside at (at + 17) t u → (level x : ℕ) (v : Symbol) → x < 256 → c ≡ codePlace level x → at ≡ symbolPlace level x → symbolAt u level x ≡ some v → scopeOf u level ≡ insert (scopeOf s level) x v
+unfolding scopeOf
+scope-insert {c} {at} o p level x v l e f h =
+    table-insert _ _ x v l h (λ y n k.
+    symbol-kept p level y (inl (omega arith)) (apart (level * 4608 + 256) 17 y x at (at + 17) n (omega arith) (omega arith))
+    ∙ symbol-kept o level y (⊎-elim (λ (q : x ≤ y). inr (omega arith)) (λ (q : y < x). inl (omega arith)) (split x y)) (inr (omega arith)))
 
 few-by : (s : List ℕ) (at code : ℕ) → 65536 ≤ length s → at ≤ 51200 → length (paramsOf (functionBy s at code)) ≤ 16 → (code ≡ 0 → ⊥) → getD s (at + 2) 0 ≤ 16
 few-by s at zero room h few n = absurd (n refl)

@@ -51,11 +51,10 @@ pub no-size-fits : (z : Number) → z ≡ Number.None → OptionFits (NumberFits
 unfolding OptionFits
 no-size-fits z e = rw e tt
 
-pub symbol-stored : (s t u v : List ℕ) (at code : ℕ) (sym : Symbol) → code ≡ codeOf (sym .kind) → t ≡ set s at code → u ≡ sets t (at + 1) (sizeBytes (sym .size)) → v ≡ sets u (at + 10) (spanBytes (sym .decl-span)) → v ≡ sets s at (symbolBytes sym)
+pub symbol-stored : (s t u v : List ℕ) (c at code : ℕ) (sym : Symbol) → code ≡ codeOf (sym .kind) → t ≡ set s c code → u ≡ sets t at (sizeBytes (sym .size)) → v ≡ sets u (at + 9) (spanBytes (sym .decl-span)) → v ≡ sets (set s c (codeOf (sym .kind))) at (symbolBytes sym)
 unfolding symbolBytes
-symbol-stored s t u v at code sym c e f g =
-    let h : u ≡ sets s at (codeOf (sym .kind) ∷ sizeBytes (sym .size)) = headed s t u at (codeOf (sym .kind)) (sizeBytes (sym .size)) (rw c at e) f in
-    joined (codeOf (sym .kind) ∷ sizeBytes (sym .size)) (spanBytes (sym .decl-span)) s u v at 10 (ap suc (length-size (sym .size))) h g
+symbol-stored s t u v c at code sym k e f g =
+    rw (e, k) at (joined (sizeBytes (sym .size)) (spanBytes (sym .decl-span)) t u v at 9 (length-size (sym .size)) f g)
 
 -- three bytes, and more behind them
 threes : (s t u v w : List ℕ) (at a b c : ℕ) (xs : List ℕ) → t ≡ set s at a → u ≡ set t (at + 1) b → v ≡ set u (at + 2) c → w ≡ sets v (at + 3) xs → w ≡ sets s at (a ∷ b ∷ c ∷ xs)

@@ -18,7 +18,7 @@ use Rattle.context.specs.declared.GateSig.{GateSig as GateValue}
 use Rattle.context.specs.declared.FoundFunction.{FoundFunction}
 use Rattle.context.specs.declared.Symbol.{Symbol as SymbolValue}
 use Rattle.context.specs.Values.{kindOf, numberOf, symbolOf, foundOf, foundGateOf}
-use Rattle.context.specs.View.{numberAt, spanAt, typeOf, kinds, sizeBy, symbolBy, symbolAt, symbolPlace, scopeOf, scopesOf, gatePlace, gatesOf, functionPlace, functionBy, functionsOf}
+use Rattle.context.specs.View.{numberAt, spanAt, typeOf, kinds, sizeBy, symbolBy, symbolAt, codePlace, symbolPlace, scopeOf, scopesOf, gatePlace, gatesOf, functionPlace, functionBy, functionsOf}
 use Rattle.tables.specs.Tables.{briefOf, paramsOf}
 
 some-suc : (n : ℕ) → (n ≡ 0 → ⊥) → n ≡ suc (n - 1)
@@ -30,21 +30,21 @@ size-none s at n e = rw e
 pub size-some : (s : List ℕ) (at m n : ℕ) → (getD s at 0 ≡ 0 → ⊥) → m ≡ n → numberOf (Number.Some m) ≡ sizeBy (getD s at 0) n
 size-some s at m n h e = rw (some-suc (getD s at 0) h, e)
 
-pub symbol-none : (s : List ℕ) (at : ℕ) → getD s at 0 ≡ 0 → foundOf FoundSymbol.None ≡ symbolAt s at
-symbol-none s at e = rw e
+pub symbol-none : (s : List ℕ) (level x : ℕ) → getD s (codePlace level x) 0 ≡ 0 → foundOf FoundSymbol.None ≡ symbolAt s level x
+symbol-none s level x e = rw e
 
-pub symbol-some : (s : List ℕ) (at : ℕ) (v : SymbolValue) → (getD s at 0 ≡ 0 → ⊥) → kindOf (v .kind) ≡ getD kinds (getD s at 0 - 1) Qubit → numberOf (v .size) ≡ sizeBy (getD s (at + 1) 0) (numberAt 8 s (at + 1 + 1)) → v .«decl_span» ≡ spanAt s (at + 10) → foundOf (FoundSymbol.Some v) ≡ symbolAt s at
-symbol-some s at v h k z p =
-    let e : at + 1 + 1 ≡ at + 2 = omega arith in
-    let q : symbolBy s at (getD s at 0) ≡ symbolBy s at (suc (getD s at 0 - 1)) = ap (symbolBy s at) (some-suc (getD s at 0) h) in
-    rw (k, z, p, e) (sym q)
+pub symbol-some : (s : List ℕ) (level x : ℕ) (v : SymbolValue) → (getD s (codePlace level x) 0 ≡ 0 → ⊥) → kindOf (v .kind) ≡ getD kinds (getD s (codePlace level x) 0 - 1) Qubit → numberOf (v .size) ≡ sizeBy (getD s (symbolPlace level x) 0) (numberAt 8 s (symbolPlace level x + 1)) → v .«decl_span» ≡ spanAt s (symbolPlace level x + 9) → foundOf (FoundSymbol.Some v) ≡ symbolAt s level x
+symbol-some s level x v h k z p =
+    let code = getD s (codePlace level x) 0 in
+    let q : symbolAt s level x ≡ symbolBy s (symbolPlace level x) (suc (code - 1)) = ap (symbolBy s (symbolPlace level x)) (some-suc code h) in
+    rw (k, z, p) (sym q)
 
 -- a symbol stands in its scope
-pub scope-at : (s : List ℕ) (level x : ℕ) → x < 256 → scopeOf s level x ≡ symbolAt s (symbolPlace level x)
+pub scope-at : (s : List ℕ) (level x : ℕ) → x < 256 → scopeOf s level x ≡ symbolAt s level x
 unfolding scopeOf
 scope-at s level x h = rw (lt-ltb x 256 h)
 
-pub current-at : (s : List ℕ) (depth x : ℕ) (r : FoundSymbol) → 0 < depth → x < 256 → foundOf r ≡ symbolAt s (symbolPlace (depth - 1) x) → foundOf r ≡ getCurrent (scopesOf s depth) x
+pub current-at : (s : List ℕ) (depth x : ℕ) (r : FoundSymbol) → 0 < depth → x < 256 → foundOf r ≡ symbolAt s (depth - 1) x → foundOf r ≡ getCurrent (scopesOf s depth) x
 unfolding scopesOf getCurrent
 current-at s depth x r d h e =
     let n : depth ≡ suc (depth - 1) = omega arith in
@@ -59,7 +59,7 @@ pub seeking-start : (s : List ℕ) (depth x : ℕ) → Seeking s depth x depth
 seeking-start s depth x = record { within = omega arith; same = refl }
 
 module _ {s : List ℕ} {depth x left : ℕ} (r : Seeking s depth x left) where
-  pub seeking-found : (f : FoundSymbol) (v : SymbolValue) → 0 < left → x < 256 → foundOf f ≡ symbolAt s (symbolPlace (left - 1) x) → f ≡ FoundSymbol.Some v → foundOf (FoundSymbol.Some v) ≡ get (scopesOf s depth) x
+  pub seeking-found : (f : FoundSymbol) (v : SymbolValue) → 0 < left → x < 256 → foundOf f ≡ symbolAt s (left - 1) x → f ≡ FoundSymbol.Some v → foundOf (FoundSymbol.Some v) ≡ get (scopesOf s depth) x
   unfolding scopesOf get
   seeking-found f v l h e g =
       let n : left ≡ suc (left - 1) = omega arith in
@@ -67,7 +67,7 @@ module _ {s : List ℕ} {depth x left : ℕ} (r : Seeking s depth x left) where
       let p : get (scopesOf s depth) x ≡ get (scopesOf s (suc (left - 1))) x = rw n at (r .same) in
       sym (p ∙ rw here)
 
-  pub seeking-more : (f : FoundSymbol) → 0 < left → x < 256 → foundOf f ≡ symbolAt s (symbolPlace (left - 1) x) → f ≡ FoundSymbol.None → Seeking s depth x (left - 1)
+  pub seeking-more : (f : FoundSymbol) → 0 < left → x < 256 → foundOf f ≡ symbolAt s (left - 1) x → f ≡ FoundSymbol.None → Seeking s depth x (left - 1)
   unfolding scopesOf get
   seeking-more f l h e g =
       let n : left ≡ suc (left - 1) = omega arith in

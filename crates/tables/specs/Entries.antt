@@ -33,7 +33,7 @@ pub record SymbolFits (sym : Symbol) : Type 0 where
   pub span-fits : SpanFits (sym .decl-span)
 
 unfoldable pub symbolBytes : Symbol → List ℕ
-symbolBytes sym = codeOf (sym .kind) ∷ (sizeBytes (sym .size) ++ spanBytes (sym .decl-span))
+symbolBytes sym = sizeBytes (sym .size) ++ spanBytes (sym .decl-span)
 
 unfoldable pub gateBytes : GateSig → List ℕ
 gateBytes g = 1 ∷ g .param-count ∷ g .qubit-count ∷ spanBytes (g .decl-span)

@@ -1,20 +1,20 @@
 -- Laws of the tables for those who call this crate. Assumes nothing.
 use Prim.Native.Nat.{ℕ, zero, suc, _≤_, _<_}
 use mathlib.Core.Path.{_≡_, refl, ap, _∙_, fun-ext}
-use mathlib.Core.List.{List, [], _∷_, _++_, map}
+use mathlib.Core.List.{List, [], _∷_, map}
 use mathlib.Core.Bool.{Bool, true, false}
 use mathlib.Core.Option.{Option, none}
 use native.Mathlib.Omega.{arith}
 use native.Mathlib.Decide.{decLe}
-use lib.ListN.{length, getD, drop, replicate, length-replicate, getD-replicate, length-map, List·getD-append}
+use lib.ListN.{length, getD, length-map}
 use lib.Dec.{ltb, eqb}
 use borrow.Author.Tests.{ltb-true}
 use Rattle.span.specs.declared.Span.{Span}
 use Rattle.ast.specs.declared.ClassicalType.{ClassicalType}
 use Rattle.sema.specs.Symbols.{Symbol, FunctionSig, Table, Scope, Symbols, empty, insert, GateSig}
-use Rattle.context.specs.View.{typeOf, below256, symbolPlace, scopeOf, scopesOf, gatePlace, gatesOf, functionPlace, functionsOf}
+use Rattle.context.specs.View.{typeOf, below256, codePlace, scopeOf, scopesOf, gatePlace, gatesOf, functionPlace, functionsOf}
 use Rattle.tables.specs.Entries.{typeBytes}
-use Rattle.tables.specs.Tables.{Becomes, Inserted, paramsOf, mostParams, FewParams, functionIn, cleared}
+use Rattle.tables.specs.Tables.{Becomes, Inserted, paramsOf, mostParams, FewParams, functionIn}
 
 -- a scope is left by counting one less
 pub leave : (s : List ℕ) (depth : ℕ) → scopesOf s (suc depth) ≡ scopeOf s depth ∷ scopesOf s depth
@@ -53,7 +53,7 @@ none-below f h = fun-ext (λ x. at x (ltb x 256) refl)
     at x true e = rw e (h x (ltb-true x 256 e))
     at x false e = rw e
 
-pub scope-empty : (s : List ℕ) (level : ℕ) → ((x : ℕ) → x < 256 → getD s (symbolPlace level x) 0 ≡ 0) → scopeOf s level ≡ empty
+pub scope-empty : (s : List ℕ) (level : ℕ) → ((x : ℕ) → x < 256 → getD s (codePlace level x) 0 ≡ 0) → scopeOf s level ≡ empty
 unfolding scopeOf
 scope-empty s level h = none-below _ (λ x l. rw (h x l))
 
@@ -64,24 +64,6 @@ gates-empty s h = none-below _ (λ x l. rw (h x l))
 pub functions-empty : (s : List ℕ) → ((x : ℕ) → x < 256 → getD s (functionPlace x) 0 ≡ 0) → functionsOf s ≡ empty
 unfolding functionsOf
 functions-empty s h = none-below _ (λ x l. rw (h x l))
-
--- A cleared scratch has one empty scope, no gates and no functions.
-zeros : (n : ℕ) (rest : List ℕ) (i : ℕ) → i < n → getD (replicate n 0 ++ rest) i 0 ≡ 0
-zeros n rest i h = List·getD-append (replicate n 0) rest 0 i (rw length-replicate h) ∙ getD-replicate n i 0 0 h
-
-cleared-byte : (s : List ℕ) (i : ℕ) → i < 65536 → getD (cleared s) i 0 ≡ 0
-unfolding cleared
-cleared-byte s i h = zeros 65536 (drop 65536 s) i h
-
-pub cleared-scopes : (s : List ℕ) → scopesOf (cleared s) 1 ≡ empty ∷ []
-unfolding scopesOf
-cleared-scopes s = ap (λ (c : Scope). c ∷ []) (scope-empty (cleared s) 0 (λ x h. cleared-byte s (symbolPlace 0 x) (omega arith)))
-
-pub cleared-gates : (s : List ℕ) → gatesOf (cleared s) ≡ empty
-cleared-gates s = gates-empty (cleared s) (λ x h. cleared-byte s (gatePlace x) (omega arith))
-
-pub cleared-functions : (s : List ℕ) → functionsOf (cleared s) ≡ empty
-cleared-functions s = functions-empty (cleared s) (λ x h. cleared-byte s (functionPlace x) (omega arith))
 
 -- No function has more parameters than its entry has room for: at first, and after a definition with no more.
 pub few-empty : FewParams empty

@@ -41,6 +41,10 @@ GateDefined s t x g = KeepsScopes s t (insert (gatesOf s) x g) (functionsOf s)
 abbrev pub FunctionDefined : List ℕ → List ℕ → TextNumber → FunctionSig → Type 0
 FunctionDefined s t x f = KeepsScopes s t (gatesOf s) (insert (functionsOf s) x f)
 
+-- and what a walk begins with: one empty scope, no gates, no functions
+abbrev pub Begun : List ℕ → List ℕ → Type 0
+Begun s t = Becomes s t 1 (empty ∷ []) empty empty
+
 -- a function as it is found: the number of its parameters in place of their types
 abbrev pub briefOf : Option FunctionSig → FoundFunction
 briefOf none = FoundFunction.None

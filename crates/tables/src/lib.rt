@@ -22,11 +22,14 @@ ghost use Rattle.sema.specs.Messages.{Qubit};
 ghost use Rattle.sema.specs.Symbols.{get, getCurrent};
 ghost use Rattle.sema.specs.Marks.{sizeOf as sizeIn};
 ghost use Rattle.context.specs.Values.{kindOf, numberOf as sizeOf, symbolOf, foundOf, gateOf, foundGateOf};
-ghost use Rattle.context.specs.View.{numberAt, spanAt, typeOf, kinds, sizeBy, symbolAt, scopesOf, gatesOf, functionsOf};
+ghost use Rattle.context.specs.View.{numberAt, spanAt, typeOf, kinds, sizeBy, symbolAt, codePlace, symbolPlace, scopesOf, gatesOf, functionsOf};
 ghost use Rattle.tables.specs.Entries.{SymbolFits, codeOf, spanBytes, sizeBytes, symbolBytes, gateBytes, typeBytes, functionBytes};
-ghost use Rattle.tables.specs.Tables.{Inserted, Entered, GateDefined, FunctionDefined, briefOf, paramsOf, FewParams, functionIn, cleared};
+ghost use Rattle.tables.specs.Tables.{Inserted, Entered, Begun, GateDefined, FunctionDefined, briefOf, paramsOf, FewParams, functionIn, cleared};
 
-const SYMBOL: usize = 18;
+// Of a level, the codes' bytes and then the entries.
+const CODES: usize = 256;
+
+const SYMBOL: usize = 17;
 
 const LEVEL: usize = 4608;
 
@@ -37,6 +40,9 @@ const GATE: usize = 11;
 const FUNCTIONS: usize = 44288;
 
 const FUNCTION: usize = 27;
+
+// The bytes of the gates and the functions.
+const SIGNATURES: usize = 9728;
 
 fn wide(x: u8) -> u64
     ensures { λ r. ⌜ (r ≡ x) × (r < 256) ⌝ }
@@ -188,17 +194,19 @@ fn store_size(s: &mut [u8], at: usize, size: Number)
     }
 }
 
-fn symbol_at(s: &[u8], at: usize) -> FoundSymbol
-    requires { ⌜ at + 18 ≤ length (now s) ⌝ }
-    ensures { λ r. ⌜ foundOf r ≡ symbolAt (now (s .entry)) at ⌝ }
+fn symbol_at(s: &[u8], level: usize, x: usize) -> FoundSymbol
+    requires { ⌜ (65536 ≤ length (now s)) × (level < 9) × (x < 256) ⌝ }
+    ensures { λ r. ⌜ foundOf r ≡ symbolAt (now (s .entry)) level x ⌝ }
 {
-    let code = s[at];
+    let base = level * LEVEL;
+    let code = s[base + x];
     if code == 0 {
         return FoundSymbol::None;
     }
+    let at = base + CODES + x * SYMBOL;
     let kind = kind_of(code);
-    let size = size_at(s, at + 1);
-    let decl_span = span_at(s, at + 10);
+    let size = size_at(s, at);
+    let decl_span = span_at(s, at + 9);
     FoundSymbol::Some(Symbol {
         kind,
         size,
@@ -206,16 +214,18 @@ fn symbol_at(s: &[u8], at: usize) -> FoundSymbol
     })
 }
 
-fn store_symbol(s: &mut [u8], at: usize, sym: Symbol)
-    requires { ⌜ at + 18 ≤ length (now s) ⌝ }
-    ensures { λ _. ⌜ (now (s .exit) ≡ sets (now (s .entry)) at (symbolBytes (symbolOf sym))) × SymbolFits (symbolOf sym) ⌝ }
+fn store_symbol(s: &mut [u8], level: usize, x: usize, sym: Symbol)
+    requires { ⌜ (65536 ≤ length (now s)) × (level < 9) × (x < 256) ⌝ }
+    ensures { λ _. ⌜ (now (s .exit) ≡ sets (set (now (s .entry)) (codePlace level x) (codeOf (kindOf (sym .kind)))) (symbolPlace level x) (symbolBytes (symbolOf sym))) × SymbolFits (symbolOf sym) ⌝ }
 {
     let kind = sym.kind;
     let size = sym.size;
     let decl_span = sym.decl_span;
-    put(s, at, kind_code(kind));
-    store_size(s, at + 1, size);
-    store_span(s, at + 10, decl_span);
+    let base = level * LEVEL;
+    let at = base + CODES + x * SYMBOL;
+    put(s, base + x, kind_code(kind));
+    store_size(s, at, size);
+    store_span(s, at + 9, decl_span);
 }
 
 // The symbol of a name in the innermost scope that has one.
@@ -226,7 +236,7 @@ pub fn get(scratch: &[u8], depth: usize, x: usize) -> FoundSymbol
     let mut left = depth;
     while 0 < left {
         left -= 1;
-        let found = symbol_at(scratch, left * LEVEL + x * SYMBOL);
+        let found = symbol_at(scratch, left, x);
         if let FoundSymbol::Some(sym) = found {
             return FoundSymbol::Some(sym);
         }
@@ -239,7 +249,7 @@ pub fn get_current(scratch: &[u8], depth: usize, x: usize) -> FoundSymbol
     requires { ⌜ (65536 ≤ length (now scratch)) × (0 < depth) × (depth ≤ 9) × (x < 256) ⌝ }
     ensures { λ r. ⌜ foundOf r ≡ getCurrent (scopesOf (now (scratch .entry)) depth) x ⌝ }
 {
-    symbol_at(scratch, (depth - 1) * LEVEL + x * SYMBOL)
+    symbol_at(scratch, depth - 1, x)
 }
 
 // The size of the symbol that a name shows.
@@ -258,7 +268,7 @@ pub fn insert(scratch: &mut [u8], depth: usize, x: usize, sym: Symbol)
     requires { ⌜ (65536 ≤ length (now scratch)) × (0 < depth) × (depth ≤ 9) × (x < 256) ⌝ }
     ensures { λ _. ⌜ Inserted (now (scratch .entry)) (now (scratch .exit)) depth x (symbolOf sym) ⌝ }
 {
-    store_symbol(scratch, (depth - 1) * LEVEL + x * SYMBOL, sym);
+    store_symbol(scratch, depth - 1, x, sym);
 }
 
 // An empty scope within the others. It is left by counting one less.
@@ -268,7 +278,7 @@ pub fn enter(scratch: &mut [u8], depth: usize)
 {
     let at = depth * LEVEL;
     let mut i = 0;
-    while i < LEVEL {
+    while i < CODES {
         scratch[at + i] = 0;
         i += 1;
     }
@@ -378,7 +388,20 @@ pub fn define_function(
     store_types(scratch, entry + 11, tree, at, count);
 }
 
-// Before a walk, and after it.
+// Before a walk: one empty scope, no gates, no functions, whatever the scratch held.
+pub fn begin(scratch: &mut [u8])
+    requires { ⌜ 65536 ≤ length (now scratch) ⌝ }
+    ensures { λ _. ⌜ Begun (now (scratch .entry)) (now (scratch .exit)) ⌝ }
+{
+    enter(scratch, 0);
+    let mut i = 0;
+    while i < SIGNATURES {
+        scratch[GATES + i] = 0;
+        i += 1;
+    }
+}
+
+// After a walk.
 pub fn clear(scratch: &mut [u8])
     requires { ⌜ 65536 ≤ length (now scratch) ⌝ }
     ensures { λ _. ⌜ now (scratch .exit) ≡ cleared (now (scratch .entry)) ⌝ }

@@ -7,16 +7,16 @@ use Rattle.tables.proofs.enter.Statement.{statement}
 use Rattle.tables.proofs.enter.Tie as tie
 
 abbrev Inv-loop : tie.InvT-loop
-Inv-loop scratch₀ depth at i₀ scratch i = Emptying scratch₀ (depth * 4608) scratch i
+Inv-loop scratch₀ depth at i₀ scratch i = Emptying scratch₀ (depth * 4608) 256 scratch i
 
 abbrev μ-loop : tie.MeasureT-loop
-μ-loop scratch₀ depth at i₀ scratch i = 4608 - i
+μ-loop scratch₀ depth at i₀ scratch i = 256 - i
 
 pub enter-spec : {M : Type 1} → statement M
 enter-spec =
     tie.close (tie.spec Inv-loop μ-loop
     (λ c. search needs)  -- mul-at
-    (λ c. emptying-start _ _)  -- loop-holds
+    (λ c. emptying-start _ _ _)  -- loop-holds
     (λ c. search needs)  -- add-scratch
     (λ c. search needs)  -- slice-write-scratch
     (λ c. search needs)  -- add-i

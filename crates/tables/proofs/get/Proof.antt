@@ -16,9 +16,6 @@ get-spec =
     tie.close (tie.spec Inv-loop μ-loop
     (λ c. seeking-start _ _ _)  -- loop-holds
     (λ c. search needs)  -- sub-left
-    (λ c. search needs)  -- mul-symbol-at
-    (λ c. search needs)  -- mul-symbol-at-2
-    (λ c. search needs)  -- add-symbol-at
     (λ c κs. search needs)  -- symbol-at-requires
     (λ c. search needs)  -- enum-known-found
     (λ c. search seeking-found)  -- returns

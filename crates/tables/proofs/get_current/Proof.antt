@@ -8,8 +8,5 @@ pub get-current-spec : {M : Type 1} → statement M
 get-current-spec =
     tie.close (tie.spec
     (λ c. search needs)  -- sub-symbol-at
-    (λ c. search needs)  -- mul-symbol-at
-    (λ c. search needs)  -- mul-symbol-at-2
-    (λ c. search needs)  -- add-symbol-at
     (λ c κs. search needs)  -- symbol-at-requires
     (λ c. search current-at))  -- returns

@@ -8,9 +8,6 @@ pub insert-spec : {M : Type 1} → statement M
 insert-spec =
     tie.close (tie.spec
     (λ c. search needs)  -- sub-store-symbol
-    (λ c. search needs)  -- mul-store-symbol
-    (λ c. search needs)  -- mul-store-symbol-2
-    (λ c. search needs)  -- add-store-symbol
     (λ c κs. search needs)  -- store-symbol-requires
     (λ c. search needs)  -- same-length
     (λ c. search inserted))  -- returns
