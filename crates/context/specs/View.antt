@@ -182,10 +182,11 @@ abbrev pub contextOf : List ℕ → List Key → List ℕ → ℕ → List ℕ �
 contextOf tree ks scratch depth sheet =
     record { symbols = scopesOf scratch depth; gates = gatesOf scratch; functions = functionsOf scratch; measured = marksOf tree ks sheet }
 
--- each place of a sheet is that of a measure statement, or 0
+-- a sheet has 256 places, and each is that of a measure statement, or 0
 abbrev pub PlaceOk : List ℕ → ℕ → Type 0
 PlaceOk tree zero = Unit {0}
 PlaceOk tree (suc p) = IsOk (measure (textsOf tree) (suc p) tree (suc p + 1))
 
 pub record Placed (tree sheet : List ℕ) : Type 0 where
+  pub whole : length sheet ≡ 256
   pub each : (i : ℕ) → PlaceOk tree (getD sheet i 0)

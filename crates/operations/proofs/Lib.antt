@@ -1,3 +1,4 @@
+pub mod Operations
 pub mod Simple
 pub mod Measured
 pub mod Counted

@@ -3,6 +3,7 @@ mod calls;
 mod measures;
 
 ghost use mathlib.Core.Path.{_≡_};
+ghost use mathlib.Core.Bool.{true};
 ghost use Prim.Native.Nat.{_+_, _-_, _≤_};
 ghost use lib.ListN.{length, getD};
 ghost use Rattle.tree.specs.Ans.{IsOk, nextOf};
@@ -13,8 +14,8 @@ ghost use Rattle.sema.specs.Operands.{useOperands};
 ghost use Rattle.context.specs.Sink.{SinkFits};
 ghost use Rattle.context.specs.View.{Placed, scopesOf, keysIn, marksOf, spanAt};
 ghost use Rattle.promises.specs.Typings.{SaidOf};
-ghost use Rattle.promises.specs.Walks.{Walkable, Ready, StmtKeyed, StmtWalked};
-ghost use Rattle.operations.specs.States.{stateOf};
+ghost use Rattle.promises.specs.Walks.{stateOf, Walkable, Ready, StmtKeyed, StmtWalked};
+ghost use Rattle.operations.specs.Operations.{isOperation};
 use accepted::numbers::span_at;
 use accepted::operands::operand_at;
 use accepted::parts::skip_operands;
@@ -86,21 +87,20 @@ fn use_targets(
 }
 
 // A barrier uses its operands.
-pub fn barrier(
+fn barrier(
     tree: &[u8],
     index: &[u64],
     scratch: &[u8],
     out: &mut [u8],
     keys: usize,
     left: usize,
-    st: State,
-) -> State
-    requires { ⌜ Walkable (now tree) (now index) keys × Ready (now tree) (now scratch) st × IsOk (stmt (textsOf (now tree)) left (now tree) (st .at)) × (left ≤ 8) × (getD (now tree) (st .at) 0 ≡ 10) ⌝ }
-    ensures { λ r. ⌜ StmtWalked (now (tree .entry)) (now (index .entry)) keys left st (now (scratch .entry)) (now (out .entry)) r (now (scratch .entry)) (now (out .exit)) ⌝ }
+    marks: &[u16; 256],
+    at: usize,
+    sink: Sink,
+) -> After
+    requires { ⌜ Walkable (now tree) (now index) keys × Ready (now tree) (now scratch) (stateOf at sink (now marks)) × IsOk (stmt (textsOf (now tree)) left (now tree) at) × (left ≤ 8) × (getD (now tree) at 0 ≡ 10) ⌝ }
+    ensures { λ r. ⌜ StmtWalked (now (tree .entry)) (now (index .entry)) keys left (stateOf at sink (now (marks .entry))) (now (scratch .entry)) (now (out .entry)) (stateOf (r .next) (r .sink) (now (marks .entry))) (now (scratch .entry)) (now (out .exit)) ⌝ }
 {
-    let at = st.at;
-    let sink = st.sink;
-    let marks = st.marks;
     let a = use_targets(
         tree,
         index,
@@ -108,34 +108,32 @@ pub fn barrier(
         out,
         9 - left,
         keys,
-        &marks,
+        marks,
         at + 1,
         sink,
     );
     let said = a.sink;
-    State {
-        at: a.next + 8,
+    After {
+        next: a.next + 8,
         sink: said,
-        marks,
     }
 }
 
 // A delay: a numeric duration, and the operands it uses.
-pub fn delay(
+fn delay(
     tree: &[u8],
     index: &[u64],
     scratch: &[u8],
     out: &mut [u8],
     keys: usize,
     left: usize,
-    st: State,
-) -> State
-    requires { ⌜ Walkable (now tree) (now index) keys × Ready (now tree) (now scratch) st × IsOk (stmt (textsOf (now tree)) left (now tree) (st .at)) × (left ≤ 8) × (getD (now tree) (st .at) 0 ≡ 11) ⌝ }
-    ensures { λ r. ⌜ StmtWalked (now (tree .entry)) (now (index .entry)) keys left st (now (scratch .entry)) (now (out .entry)) r (now (scratch .entry)) (now (out .exit)) ⌝ }
+    marks: &[u16; 256],
+    at: usize,
+    sink: Sink,
+) -> After
+    requires { ⌜ Walkable (now tree) (now index) keys × Ready (now tree) (now scratch) (stateOf at sink (now marks)) × IsOk (stmt (textsOf (now tree)) left (now tree) at) × (left ≤ 8) × (getD (now tree) at 0 ≡ 11) ⌝ }
+    ensures { λ r. ⌜ StmtWalked (now (tree .entry)) (now (index .entry)) keys left (stateOf at sink (now (marks .entry))) (now (scratch .entry)) (now (out .entry)) (stateOf (r .next) (r .sink) (now (marks .entry))) (now (scratch .entry)) (now (out .exit)) ⌝ }
 {
-    let at = st.at;
-    let sink = st.sink;
-    let marks = st.marks;
     let a = typing::require_numeric(
         tree,
         index,
@@ -146,7 +144,6 @@ pub fn delay(
         Message::DelayNumeric,
         sink,
     );
-    let next = a.next;
     let checked = a.sink;
     let b = use_targets(
         tree,
@@ -155,34 +152,32 @@ pub fn delay(
         out,
         9 - left,
         keys,
-        &marks,
-        next,
+        marks,
+        a.next,
         checked,
     );
     let said = b.sink;
-    State {
-        at: b.next + 8,
+    After {
+        next: b.next + 8,
         sink: said,
-        marks,
     }
 }
 
 // A reset clears the marks of its operand.
-pub fn reset(
+fn reset(
     tree: &[u8],
     index: &[u64],
     scratch: &[u8],
     out: &mut [u8],
     keys: usize,
     left: usize,
-    st: State,
-) -> State
-    requires { ⌜ Walkable (now tree) (now index) keys × Ready (now tree) (now scratch) st × IsOk (stmt (textsOf (now tree)) left (now tree) (st .at)) × (left ≤ 8) × (getD (now tree) (st .at) 0 ≡ 9) ⌝ }
-    ensures { λ r. ⌜ StmtWalked (now (tree .entry)) (now (index .entry)) keys left st (now (scratch .entry)) (now (out .entry)) r (now (scratch .entry)) (now (out .exit)) ⌝ }
+    marks: &mut [u16; 256],
+    at: usize,
+    sink: Sink,
+) -> After
+    requires { ⌜ Walkable (now tree) (now index) keys × Ready (now tree) (now scratch) (stateOf at sink (now marks)) × IsOk (stmt (textsOf (now tree)) left (now tree) at) × (left ≤ 8) × (getD (now tree) at 0 ≡ 9) ⌝ }
+    ensures { λ r. ⌜ StmtWalked (now (tree .entry)) (now (index .entry)) keys left (stateOf at sink (now (marks .entry))) (now (scratch .entry)) (now (out .entry)) (stateOf (r .next) (r .sink) (now (marks .exit))) (now (scratch .entry)) (now (out .exit)) ⌝ }
 {
-    let at = st.at;
-    let sink = st.sink;
-    let marks = st.marks;
     let r = operand_at(tree, at + 1);
     let op = r.operand;
     let said = operands::check_operand(
@@ -195,31 +190,29 @@ pub fn reset(
         Expected::Qubit,
         sink,
     );
-    let cleared = sheet::clear(marks, index, keys, op);
-    State {
-        at: r.next + 8,
+    sheet::clear(marks, index, keys, op);
+    After {
+        next: r.next + 8,
         sink: said,
-        marks: cleared,
     }
 }
 
 // A measurement: its operands, and the marks that it sets.
-pub fn measure(
+fn measure(
     tree: &[u8],
     index: &[u64],
     scratch: &[u8],
     out: &mut [u8],
     keys: usize,
     left: usize,
-    st: State,
-) -> State
-    requires { ⌜ Walkable (now tree) (now index) keys × Ready (now tree) (now scratch) st × IsOk (stmt (textsOf (now tree)) left (now tree) (st .at)) × (left ≤ 8) × (getD (now tree) (st .at) 0 ≡ 8) ⌝ }
-    requires { ⌜ StmtKeyed (keysIn (now index) keys) (scopesOf (now scratch) (9 - left)) (stmt (textsOf (now tree)) left (now tree) (st .at)) ⌝ }
-    ensures { λ r. ⌜ StmtWalked (now (tree .entry)) (now (index .entry)) keys left st (now (scratch .entry)) (now (out .entry)) r (now (scratch .entry)) (now (out .exit)) ⌝ }
+    marks: &mut [u16; 256],
+    at: usize,
+    sink: Sink,
+) -> After
+    requires { ⌜ Walkable (now tree) (now index) keys × Ready (now tree) (now scratch) (stateOf at sink (now marks)) × IsOk (stmt (textsOf (now tree)) left (now tree) at) × (left ≤ 8) × (getD (now tree) at 0 ≡ 8) ⌝ }
+    requires { ⌜ StmtKeyed (keysIn (now index) keys) (scopesOf (now scratch) (9 - left)) (stmt (textsOf (now tree)) left (now tree) at) ⌝ }
+    ensures { λ r. ⌜ StmtWalked (now (tree .entry)) (now (index .entry)) keys left (stateOf at sink (now (marks .entry))) (now (scratch .entry)) (now (out .entry)) (stateOf (r .next) (r .sink) (now (marks .exit))) (now (scratch .entry)) (now (out .exit)) ⌝ }
 {
-    let at = st.at;
-    let sink = st.sink;
-    let marks = st.marks;
     let q = operand_at(tree, at + 1);
     let qubit = q.operand;
     let k = q.next;
@@ -230,22 +223,21 @@ pub fn measure(
         out,
         9 - left,
         keys,
-        &marks,
+        marks,
         qubit,
         k,
         sink,
     );
     let said = a.sink;
-    let marked = mark_measured(index, scratch, 9 - left, keys, marks, qubit, at);
-    State {
-        at: a.next + 8,
+    mark_measured(index, scratch, 9 - left, keys, marks, qubit, at);
+    After {
+        next: a.next + 8,
         sink: said,
-        marks: marked,
     }
 }
 
-// A gate call: its arity, its modifiers and parameters, and its operands. It leaves the marks as they are, so they are lent.
-pub fn gate_call(
+// A gate call: its arity, its modifiers and parameters, and its operands.
+fn gate_call(
     tree: &[u8],
     index: &[u64],
     scratch: &[u8],
@@ -279,5 +271,40 @@ pub fn gate_call(
     After {
         next: call.end + 8,
         sink: said,
+    }
+}
+
+// Is the statement with this case byte a gate call, a measurement, a reset, a barrier or a delay?
+pub fn is_operation(case: u8) -> bool
+    ensures { λ r. ⌜ r ≡ isOperation case ⌝ }
+{
+    if case < 8 {
+        return case == 5;
+    }
+    case < 12
+}
+
+// A statement on qubits. It has no body, and is lent the marks, which it may change.
+pub fn operation(
+    tree: &[u8],
+    index: &[u64],
+    scratch: &[u8],
+    out: &mut [u8],
+    keys: usize,
+    left: usize,
+    marks: &mut [u16; 256],
+    at: usize,
+    sink: Sink,
+) -> After
+    requires { ⌜ Walkable (now tree) (now index) keys × Ready (now tree) (now scratch) (stateOf at sink (now marks)) × IsOk (stmt (textsOf (now tree)) left (now tree) at) × (left ≤ 8) × (isOperation (getD (now tree) at 0) ≡ true) ⌝ }
+    requires { ⌜ StmtKeyed (keysIn (now index) keys) (scopesOf (now scratch) (9 - left)) (stmt (textsOf (now tree)) left (now tree) at) ⌝ }
+    ensures { λ r. ⌜ StmtWalked (now (tree .entry)) (now (index .entry)) keys left (stateOf at sink (now (marks .entry))) (now (scratch .entry)) (now (out .entry)) (stateOf (r .next) (r .sink) (now (marks .exit))) (now (scratch .entry)) (now (out .exit)) ⌝ }
+{
+    match tree[at] {
+        5 => gate_call(tree, index, scratch, out, keys, left, marks, at, sink),
+        8 => measure(tree, index, scratch, out, keys, left, marks, at, sink),
+        9 => reset(tree, index, scratch, out, keys, left, marks, at, sink),
+        10 => barrier(tree, index, scratch, out, keys, left, marks, at, sink),
+        _ => delay(tree, index, scratch, out, keys, left, marks, at, sink),
     }
 }

@@ -29,23 +29,23 @@ use lines::Expected;
 use lines::Message;
 use span::Span;
 
-// The marks after the measure statement at `at`.
+// Sets the marks of the measure statement at `at`.
 pub fn mark_measured(
     index: &[u64],
     scratch: &[u8],
     depth: usize,
     keys: usize,
-    marks: [u16; 256],
+    marks: &mut [u16; 256],
     qubit: GateOperand,
     at: usize,
-) -> [u16; 256]
-    requires { ⌜ Indexed (now index) keys × (65536 ≤ length (now scratch)) × (depth ≤ 9) × (qubit .name < 256) × (0 < at) × (at < 65536) × Covers (keysIn (now index) keys) (markMeasured (scopesOf (now scratch) depth) (operandOf qubit)) ⌝ }
-    ensures placed { λ r. ⌜ ((tree : List ℕ) → PlaceOk tree at → Placed tree marks → Placed tree r) ⌝ }
-    ensures marks { λ r. ⌜ ((tree : List ℕ) → marksOf tree (keysIn (now (index .entry)) keys) r ≡ apply (markMeasured (scopesOf (now (scratch .entry)) depth) (operandOf qubit)) (measureSpan tree at) (marksOf tree (keysIn (now (index .entry)) keys) marks)) ⌝ }
+)
+    requires { ⌜ (length (now marks) ≡ 256) × Indexed (now index) keys × (65536 ≤ length (now scratch)) × (depth ≤ 9) × (qubit .name < 256) × (0 < at) × (at < 65536) × Covers (keysIn (now index) keys) (markMeasured (scopesOf (now scratch) depth) (operandOf qubit)) ⌝ }
+    ensures placed { λ _. ⌜ ((tree : List ℕ) → PlaceOk tree at → Placed tree (now (marks .entry)) → Placed tree (now (marks .exit))) ⌝ }
+    ensures marks { λ _. ⌜ ((tree : List ℕ) → marksOf tree (keysIn (now (index .entry)) keys) (now (marks .exit)) ≡ apply (markMeasured (scopesOf (now (scratch .entry)) depth) (operandOf qubit)) (measureSpan tree at) (marksOf tree (keysIn (now (index .entry)) keys) (now (marks .entry)))) ⌝ }
 {
     let name = qubit.name;
     let size = tables::size_of(scratch, depth, name);
-    sheet::set(marks, index, keys, qubit, size, at as u16)
+    sheet::set(marks, index, keys, qubit, size, at as u16);
 }
 
 // Was it measured before?

@@ -23,6 +23,10 @@ use Rattle.tables.specs.Tables.{tablesEnd, FewParams}
 use Rattle.sheet.specs.Sheet.{Indexed, Distinct}
 use Rattle.promises.specs.Emitted.{Emitted}
 
+-- a state from its parts
+abbrev pub stateOf : ℕ → Sink → List ℕ → State
+stateOf at sink marks = record { at = at; sink = sink; marks = marks }
+
 -- what holds before every statement of a walk, whatever the state
 pub record Walkable (tree index : List ℕ) (keys : ℕ) : Type 0 where
   pub small : length tree ≤ fileLimit

@@ -1,7 +1,7 @@
 -- What is left to do in the loops that make a sheet. Assumes nothing.
 use Prim.Native.Nat.{ℕ, zero, suc, _+_, _≤_, _<_}
 use mathlib.Core.Path.{_≡_, refl, sym, _∙_}
-use mathlib.Core.List.{List, _∷_, _++_, append-assoc, append-nil}
+use mathlib.Core.List.{List, [], _∷_, _++_, append-assoc, append-nil}
 use mathlib.Core.Option.{Option}
 use mathlib.Core.Bool.{Bool, true, false, cond}
 use native.Mathlib.Omega.{arith}
@@ -99,18 +99,18 @@ pub record Uniting (a b r : List ℕ) (i : ℕ) : Type 0 where
   pub size : length r ≡ 256
   pub left : length a ≡ 256
   pub right : length b ≡ 256
-  pub same : united a b ≡ take i r ++ united (drop i r) (drop i b)
+  pub same : united a b ≡ take i r ++ united (drop i a) (drop i r)
 
-pub uniting-start : (a b : List ℕ) → length a ≡ 256 → length b ≡ 256 → Uniting a b a 0
-uniting-start a b l m = record { within = omega arith; size = l; left = l; right = m; same = refl }
+pub uniting-start : (a b : List ℕ) → length a ≡ 256 → length b ≡ 256 → Uniting a b b 0
+uniting-start a b l m = record { within = omega arith; size = m; left = l; right = m; same = refl }
 
 module _ (a b r r′ : List ℕ) (i : ℕ) (u : Uniting a b r i) where
-  pub uniting-more : i < 256 → r′ ≡ set r i (first (getD r i 0) (getD b i 0)) → Uniting a b r′ (i + 1)
+  pub uniting-more : i < 256 → r′ ≡ set r i (first (getD a i 0) (getD r i 0)) → Uniting a b r′ (i + 1)
   unfolding united
   uniting-more h e =
-      let v = first (getD r i 0) (getD b i 0) in
+      let v = first (getD a i 0) (getD r i 0) in
       let hr : i < length r = omega (arith, u .size) in
-      let hb : i < length b = omega (arith, u .right) in
+      let ha : i < length a = omega (arith, u .left) in
       rw e
       (record {
         within = omega arith;
@@ -119,14 +119,18 @@ module _ (a b r r′ : List ℕ) (i : ℕ) (u : Uniting a b r i) where
         right = u .right;
         same =
             u .same
-            ∙ rw (from-here r i 0 hr, from-here b i 0 hb, left-alone r i v hr)
-            (one-more r i v hr (united (drop (i + 1) r) (drop (i + 1) b)));
+            ∙ rw (from-here a i 0 ha, from-here r i 0 hr, left-alone r i v hr)
+            (one-more r i v hr (united (drop (i + 1) a) (drop (i + 1) r)));
       })
 
 module _ (a b r : List ℕ) (i : ℕ) (u : Uniting a b r i) (h : 256 ≤ i) where
   all-united : united a b ≡ r
   unfolding united
-  all-united = let e : i ≡ length r = omega (arith, u .within, u .size) in u .same ∙ rw (e, drop-length r, take-length r) (append-nil r)
+  all-united =
+      let e : i ≡ length r = omega (arith, u .within, u .size) in
+      let f : i ≡ length a = omega (arith, u .within, u .left) in
+      let g : drop i a ≡ [] = rw f (drop-length a) in
+      u .same ∙ rw (g, e, take-length r) (append-nil r)
 
   pub uniting-end : (tree : List ℕ) (ks : List Key) → marksOf tree ks r ≡ unite (marksOf tree ks a) (marksOf tree ks b)
   uniting-end tree ks = rw (← all-united) (marks-united tree ks a b (u .left ∙ sym (u .right)))

@@ -1,10 +1,10 @@
 -- Every place in a sheet is that of a measure statement: laws of the changes and of what is looked up. Assumes nothing.
 use Prim.Native.Nat.{ℕ, zero, suc}
-use mathlib.Core.Path.{_≡_, refl}
+use mathlib.Core.Path.{_≡_, refl, ap, _∙_}
 use mathlib.Core.List.{List, [], _∷_}
 use mathlib.Core.Option.{Option, none, some}
 use mathlib.Core.Bool.{Bool, true, false, cond, _&&_}
-use lib.ListN.{getD, replicate}
+use lib.ListN.{length, getD, replicate, length-replicate}
 use lib.Dec.{eqb, leb}
 use Rattle.ast.specs.Tree.{TextNumber}
 use Rattle.sema.specs.Marks.{Key, key, inSlice}
@@ -105,15 +105,27 @@ module _ (P : ℕ → Type 0) (z : P 0) where
       (by-held (placeIn ks vs (key x none)) (leastIn x r ks vs) _ (least-held x r ks vs e) (lookup-each ks vs x (some (r .0)) e))
       tt
 
+length-stored : (t : Key → Bool) (p : ℕ) (ks : List Key) (vs : List ℕ) → length (stored t p ks vs) ≡ length vs
+unfolding stored
+length-stored t p [] vs = refl
+length-stored t p (k ∷ ks) [] = refl
+length-stored t p (k ∷ ks) (v ∷ vs) = ap suc (length-stored t p ks vs)
+
+length-united : (a b : List ℕ) → length (united a b) ≡ length a
+unfolding united
+length-united [] bs = refl
+length-united (a ∷ r) [] = refl
+length-united (a ∷ r) (b ∷ bs) = ap suc (length-united r bs)
+
 module _ (tree : List ℕ) where
   pub stored-placed : (t : Key → Bool) (p : ℕ) (ks : List Key) (vs : List ℕ) → PlaceOk tree p → Placed tree vs → Placed tree (stored t p ks vs)
-  stored-placed t p ks vs h e = record { each = stored-each (PlaceOk tree) tt t p h ks vs (e .each) }
+  stored-placed t p ks vs h e = record { whole = length-stored t p ks vs ∙ e .whole; each = stored-each (PlaceOk tree) tt t p h ks vs (e .each) }
 
   pub united-placed : (a b : List ℕ) → Placed tree a → Placed tree b → Placed tree (united a b)
-  united-placed a b e f = record { each = united-each (PlaceOk tree) tt a b (e .each) (f .each) }
+  united-placed a b e f = record { whole = length-united a b ∙ e .whole; each = united-each (PlaceOk tree) tt a b (e .each) (f .each) }
 
-  pub blank-placed : (n : ℕ) → Placed tree (replicate n 0)
-  blank-placed n = record { each = blank-each (PlaceOk tree) tt n }
+  pub blank-placed : Placed tree (replicate 256 0)
+  blank-placed = record { whole = length-replicate {A = ℕ} 256 0; each = blank-each (PlaceOk tree) tt 256 }
 
   -- what is looked up
   module _ (ks : List Key) (vs : List ℕ) (x : TextNumber) (e : Placed tree vs) where

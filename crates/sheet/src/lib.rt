@@ -241,68 +241,68 @@ fn touched(op: GateOperand, size: Number, all: bool, head: u64, i: u64) -> bool
 }
 
 fn store(
-    sheet: [u16; 256],
+    sheet: &mut [u16; 256],
     index: &[u64],
     count: usize,
     op: GateOperand,
     size: Number,
     all: bool,
     place: u16,
-) -> [u16; 256]
+)
+    requires { ⌜ length (now sheet) ≡ 256 ⌝ }
     requires { ⌜ Indexed (now index) count ⌝ }
-    ensures { λ r. ⌜ r ≡ stored (touches all (numberOf size) (operandOf op)) place (keysIn (now (index .entry)) count) sheet ⌝ }
+    ensures { λ _. ⌜ now (sheet .exit) ≡ stored (touches all (numberOf size) (operandOf op)) place (keysIn (now (index .entry)) count) (now (sheet .entry)) ⌝ }
 {
-    let mut r = sheet;
     let mut k = 0;
     while k < count {
         if touched(op, size, all, index[256 + 2 * k], index[256 + 2 * k + 1]) {
-            r[k] = place;
+            sheet[k] = place;
         }
         k += 1;
     }
-    r
 }
 
 // `mark_measured` by the measure statement at a place, where the operand's name shows a size. The keys of the index are all that the
 // tree's measure statements set.
 pub fn set(
-    sheet: [u16; 256],
+    sheet: &mut [u16; 256],
     index: &[u64],
     count: usize,
     op: GateOperand,
     size: Number,
     place: u16,
-) -> [u16; 256]
+)
+    requires { ⌜ length (now sheet) ≡ 256 ⌝ }
     requires { ⌜ Indexed (now index) count ⌝ }
     requires { ⌜ 0 < place ⌝ }
     requires { ⌜ Covers (keysIn (now index) count) (measuring (numberOf size) (operandOf op)) ⌝ }
-    ensures placed { λ r. ⌜ ((tree : List ℕ) → PlaceOk tree place → Placed tree sheet → Placed tree r) ⌝ }
-    ensures marks { λ r. ⌜ ((tree : List ℕ) → marksOf tree (keysIn (now (index .entry)) count) r ≡ apply (measuring (numberOf size) (operandOf op)) (measureSpan tree place) (marksOf tree (keysIn (now (index .entry)) count) sheet)) ⌝ }
+    ensures placed { λ _. ⌜ ((tree : List ℕ) → PlaceOk tree place → Placed tree (now (sheet .entry)) → Placed tree (now (sheet .exit))) ⌝ }
+    ensures marks { λ _. ⌜ ((tree : List ℕ) → marksOf tree (keysIn (now (index .entry)) count) (now (sheet .exit)) ≡ apply (measuring (numberOf size) (operandOf op)) (measureSpan tree place) (marksOf tree (keysIn (now (index .entry)) count) (now (sheet .entry)))) ⌝ }
 {
-    store(sheet, index, count, op, size, false, place)
+    store(sheet, index, count, op, size, false, place);
 }
 
 // `clear_measured`.
-pub fn clear(sheet: [u16; 256], index: &[u64], count: usize, op: GateOperand) -> [u16; 256]
+pub fn clear(sheet: &mut [u16; 256], index: &[u64], count: usize, op: GateOperand)
+    requires { ⌜ length (now sheet) ≡ 256 ⌝ }
     requires { ⌜ Indexed (now index) count ⌝ }
-    ensures placed { λ r. ⌜ ((tree : List ℕ) → Placed tree sheet → Placed tree r) ⌝ }
-    ensures marks { λ r. ⌜ ((tree : List ℕ) (sp : Span) → marksOf tree (keysIn (now (index .entry)) count) r ≡ apply (clearMeasured (operandOf op)) sp (marksOf tree (keysIn (now (index .entry)) count) sheet)) ⌝ }
+    ensures placed { λ _. ⌜ ((tree : List ℕ) → Placed tree (now (sheet .entry)) → Placed tree (now (sheet .exit))) ⌝ }
+    ensures marks { λ _. ⌜ ((tree : List ℕ) (sp : Span) → marksOf tree (keysIn (now (index .entry)) count) (now (sheet .exit)) ≡ apply (clearMeasured (operandOf op)) sp (marksOf tree (keysIn (now (index .entry)) count) (now (sheet .entry)))) ⌝ }
 {
-    store(sheet, index, count, op, Number::None, true, 0)
+    store(sheet, index, count, op, Number::None, true, 0);
 }
 
-// Both exits of a branch: the marks of a, and where it has none those of b.
-pub fn unite(a: [u16; 256], b: [u16; 256]) -> [u16; 256]
-    ensures placed { λ r. ⌜ ((tree : List ℕ) → Placed tree a → Placed tree b → Placed tree r) ⌝ }
-    ensures marks { λ r. ⌜ ((tree : List ℕ) (ks : List Key) → marksOf tree ks r ≡ uniteMarks (marksOf tree ks a) (marksOf tree ks b)) ⌝ }
+// Both exits of a branch, into b: the marks of a, and where it has none those of b.
+pub fn unite(a: &[u16; 256], b: &mut [u16; 256])
+    requires { ⌜ (length (now a) ≡ 256) × (length (now b) ≡ 256) ⌝ }
+    ensures placed { λ _. ⌜ ((tree : List ℕ) → Placed tree (now (a .entry)) → Placed tree (now (b .entry)) → Placed tree (now (b .exit))) ⌝ }
+    ensures marks { λ _. ⌜ ((tree : List ℕ) (ks : List Key) → marksOf tree ks (now (b .exit)) ≡ uniteMarks (marksOf tree ks (now (a .entry))) (marksOf tree ks (now (b .entry)))) ⌝ }
 {
-    let mut r = a;
     let mut i = 0;
     while i < 256 {
-        r[i] = either(r[i], b[i]);
+        b[i] = either(a[i], b[i]);
         i += 1;
     }
-    r
 }
 
 pub fn blank() -> [u16; 256]

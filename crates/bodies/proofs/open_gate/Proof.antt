@@ -3,6 +3,7 @@ use native.Mathlib.Omega.{arith}
 use borrow.Author.Needs.{needs}
 use Rattle.accepted.specs.Bodies.{stmt-left}
 use Rattle.accepted.specs.Stmts.{gateDef-name-in, gateDef-params, gateDef-qparams}
+use Rattle.promises.specs.Walks.{stateOf}
 use Rattle.bodies.proofs.Gates.{gate-opened}
 use Rattle.bodies.proofs.open_gate.Statement.{statement}
 use Rattle.bodies.proofs.open_gate.Tie as tie
@@ -11,9 +12,9 @@ define-gate-requires : tie.Need-define-gate-requires
 define-gate-requires c κs =
     let s = c .before .before .before .before .before .before .before .before .before .before .before .before in
     let p = c .before .before .before .before .before .before .before .gate-parts .ensures in
-    let l = stmt-left _ _ _ _ (s .pre .3) in
+    let l = stmt-left _ _ _ _ (s .pre .4) in
     let few = s .pre .0 .few in
-    (s .pre .2 .room, omega arith, few, omega (arith, few, p .named), gateDef-params _ _ _ _ (s .pre .3) (s .pre .5), gateDef-qparams _ _ _ _ (s .pre .3) (s .pre .5) _ (p .qubits-are))
+    (s .pre .2, omega arith, few, omega (arith, few, p .named), gateDef-params _ _ _ _ (s .pre .4) (s .pre .6), gateDef-qparams _ _ _ _ (s .pre .4) (s .pre .6) _ (p .qubits-are))
 
 pub open-gate-spec : {M : Type 1} → statement M
 open-gate-spec =
@@ -21,8 +22,8 @@ open-gate-spec =
     (λ c κs. search needs)  -- gate-parts-requires
     (λ c κs. search needs)  -- report-gate-requires
     (λ c. search needs)  -- sub-define-gate
-    (λ c. let s = c .before .before .before .before .before .before .before .before .before .before .before .before in let i = gateDef-name-in _ _ _ _ (s .pre .3) (s .pre .5) in omega arith)  -- add-define-gate
+    (λ c. let s = c .before .before .before .before .before .before .before .before .before .before .before .before in let i = gateDef-name-in _ _ _ _ (s .pre .4) (s .pre .6) in omega arith)  -- add-define-gate
     define-gate-requires
     (λ c. search needs)  -- same-length
     (λ c. search needs)  -- same-length-2
-    (λ c. gate-opened _ _ _ _ _ _ _ _ _ (c .before .before .before .before .before .before .before .before .before .before .before .gate-parts .ensures) (c .before .before .before .before .before .before .before .report-gate .ensures) (c .before .before .before .define-gate .ensures)))  -- returns
+    (λ c marks. let s = c .before .before .before .before .before .before .before .before .before .before .before .before .before .before .before in gate-opened _ _ (stateOf (s .args .at) (s .args .sink) marks) _ _ _ _ _ _ (c .before .before .before .before .before .before .before .before .before .before .gate-parts .ensures) (c .before .before .before .before .before .before .report-gate .ensures) (c .before .before .define-gate .ensures)))  -- returns

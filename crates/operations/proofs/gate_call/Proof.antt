@@ -1,6 +1,6 @@
 -- `operations::gate_call` meets its contract. Assumes nothing.
 use Rattle.accepted.specs.Stmts.{gateCall-name-in, gateCall-modifiers}
-use Rattle.operations.specs.States.{stateOf}
+use Rattle.promises.specs.Walks.{stateOf}
 use Rattle.operations.proofs.Called.{call-name, call-params, call-args, call-in, call-walked}
 use borrow.Author.Needs.{needs}
 use native.Mathlib.Omega.{arith}

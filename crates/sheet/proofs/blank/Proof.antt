@@ -7,4 +7,4 @@ use Rattle.sheet.proofs.blank.Tie as tie
 pub blank-spec : {M : Type 1} → statement M
 blank-spec =
     tie.close (tie.spec
-    (λ c. ((λ tree. blank-placed tree 256), marks-blank 256)))  -- returns
+    (λ c. (blank-placed, marks-blank 256)))  -- returns

@@ -9,10 +9,10 @@ use Rattle.sheet.proofs.store.Statement.{statement}
 use Rattle.sheet.proofs.store.Tie as tie
 
 abbrev Inv-loop : tie.InvT-loop
-Inv-loop index count op size all place r₀ k₀ r k = Storing (touches all (numberOf size) (operandOf op)) place index count r₀ r k
+Inv-loop sheet₀ index count op size all place k₀ sheet k = Storing (touches all (numberOf size) (operandOf op)) place index count sheet₀ sheet k
 
 abbrev μ-loop : tie.MeasureT-loop
-μ-loop index count op size all place r₀ k₀ r k = count - k
+μ-loop sheet₀ index count op size all place k₀ sheet k = count - k
 
 loop-again : tie.Need-loop-again Inv-loop μ-loop
 loop-again c =
@@ -36,8 +36,8 @@ store-spec =
     (λ c. search needs)  -- mul-touched-4
     (λ c. search needs)  -- shared-slice-read-touched-2
     (λ c κs. search needs)  -- touched-requires
-    (λ c. search needs)  -- mul-r
-    (λ c. search needs)  -- array-write-r
+    (λ c. search needs)  -- mul-sheet
+    (λ c. search needs)  -- element-write-sheet
     (λ c. search needs)  -- add-k
     (λ c. search needs)  -- loop-less
     loop-again  -- loop-again

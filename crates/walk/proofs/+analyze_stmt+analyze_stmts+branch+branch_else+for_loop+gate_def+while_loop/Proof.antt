@@ -1,12 +1,17 @@
 use Rattle.text.proofs.Unlike.{last-case}
 use Prim.Native.Nat.{ℕ, _<_, _+_, _-_, _*_}
-use mathlib.Core.Path.{_≡_, refl}
-use mathlib.Core.List.{[]}
+use mathlib.Core.Path.{_≡_, refl, sym, _∙_}
+use mathlib.Core.List.{List, []}
 use mathlib.Core.Logic.{⊎-elim}
 use native.Mathlib.Omega.{arith}
+use Rattle.ast.specs.Tree.{Text}
 use Rattle.tree.specs.Stmts.{body, stmt}
 use Rattle.tree.specs.Decode.{textsOf}
 use Rattle.context.specs.View.{keysIn}
+use Rattle.promises.specs.Emitted.{emitted-none}
+use Rattle.promises.specs.Walks.{stateOf}
+use Rattle.operations.specs.Operations.{isOperation, no-operation}
+use Rattle.bodies.specs.Opened.{ElseOpened}
 use Rattle.accepted.specs.Bodies.{body-in, else-in, stmt-in, stmt-below, stmt-left}
 use Rattle.walk.proofs.Loop.{Going, ready-as, going-as, going-start, going-stmt, going-keyed, going-more, going-end}
 use Rattle.walk.proofs.Enclosed.{opened-ready}
@@ -33,6 +38,8 @@ use Rattle.accepted.proofs as accepted
 use Rattle.bodies.proofs as bodies
 use Rattle.declarations.proofs as declarations
 use Rattle.operations.proofs as operations
+use Rattle.sheet.proofs as sheet
+use Rattle.tables.proofs as tables
 use Rattle.walk.proofs.+analyze_stmt+analyze_stmts+branch+branch_else+for_loop+gate_def+while_loop.{statement}
 use Rattle.walk.proofs.+analyze_stmt+analyze_stmts+branch+branch_else+for_loop+gate_def+while_loop.Tie.{close}
 
@@ -45,7 +52,7 @@ abbrev μ-analyze-stmts : Measures 4 analyze-stmts-lts.ps ℕ
 abbrev μ-branch : Measures 4 branch-lts.ps ℕ
 μ-branch κs a = 5 * a .1 .1 .1 .1 .1 .0 + 1
 
-abbrev μ-branch-else : Measures 4 branch-else-lts.ps ℕ
+abbrev μ-branch-else : Measures 5 branch-else-lts.ps ℕ
 μ-branch-else κs a = 5 * a .1 .1 .1 .1 .1 .0 + 0
 
 abbrev μ-for-loop : Measures 4 for-loop-lts.ps ℕ
@@ -82,10 +89,10 @@ module _ (t : ℕ) where
   abbrev branch-below : In 4 branch-lts.ps
   branch-below κs a = (μ-branch κs a < t) × branch.Pre κs a
 
-  abbrev branch-else-at : In 4 branch-else-lts.ps
+  abbrev branch-else-at : In 5 branch-else-lts.ps
   branch-else-at κs a = (μ-branch-else κs a ≡ t) × branch-else.Pre κs a
 
-  abbrev branch-else-below : In 4 branch-else-lts.ps
+  abbrev branch-else-below : In 5 branch-else-lts.ps
   branch-else-below κs a = (μ-branch-else κs a < t) × branch-else.Pre κs a
 
   abbrev for-loop-at : In 4 for-loop-lts.ps
@@ -107,7 +114,7 @@ module _ (t : ℕ) where
   while-loop-below κs a = (μ-while-loop κs a < t) × while-loop.Pre κs a
 
   abbrev analyze-stmt-calls : analyze-stmt-lts.Claims
-  analyze-stmt-calls = (operations.include.Reads.Asked, operations.include.Reads.Learnt, declarations.register.Reads.Asked, declarations.register.Reads.Learnt, declarations.classical_decl.Reads.Asked, declarations.classical_decl.Reads.Learnt, declarations.assignment.Reads.Asked, declarations.assignment.Reads.Learnt, gate-def-below, gate-def.Post, declarations.function_def.Reads.Asked, declarations.function_def.Reads.Learnt, operations.measure.Reads.Asked, operations.measure.Reads.Learnt, operations.reset.Reads.Asked, operations.reset.Reads.Learnt, operations.barrier.Reads.Asked, operations.barrier.Reads.Learnt, operations.delay.Reads.Asked, operations.delay.Reads.Learnt, branch-below, branch.Post, for-loop-below, for-loop.Post, while-loop-below, while-loop.Post)
+  analyze-stmt-calls = (operations.include.Reads.Asked, operations.include.Reads.Learnt, declarations.register.Reads.Asked, declarations.register.Reads.Learnt, declarations.classical_decl.Reads.Asked, declarations.classical_decl.Reads.Learnt, declarations.assignment.Reads.Asked, declarations.assignment.Reads.Learnt, gate-def-below, gate-def.Post, declarations.function_def.Reads.Asked, declarations.function_def.Reads.Learnt, branch-below, branch.Post, for-loop-below, for-loop.Post, while-loop-below, while-loop.Post)
 
   abbrev analyze-stmt-asks : (analyze-stmt-lts.Claims → In 4 analyze-stmt-lts.ps → Out 4 analyze-stmt-lts.ps analyze-stmt-lts.r → Type 0) → Type 0
   analyze-stmt-asks Need = Need analyze-stmt-calls analyze-stmt-at analyze-stmt.Post
@@ -133,26 +140,15 @@ module _ (t : ℕ) where
   analyze-stmt-function-def-requires : analyze-stmt-asks analyze-stmt-lts.Need-function-def-requires
   analyze-stmt-function-def-requires c κs = (c .before .before .before .before .before .before .before .before .pre .1 .0 .0, c .before .before .before .before .before .before .before .before .pre .1 .0 .1, c .before .before .before .before .before .before .before .before .pre .1 .0 .2, c .before .before .before .before .before .before .before .before .pre .1 .0 .3, c .before .before .match .keys7)
 
-  analyze-stmt-measure-requires : analyze-stmt-asks analyze-stmt-lts.Need-measure-requires
-  analyze-stmt-measure-requires c κs = ((c .before .before .before .before .before .before .before .before .pre .1 .0 .0, c .before .before .before .before .before .before .before .before .pre .1 .0 .1, c .before .before .before .before .before .before .before .before .pre .1 .0 .2, c .before .before .before .before .before .before .before .before .pre .1 .0 .3, c .before .before .match .keys8), c .before .before .before .before .before .before .before .before .pre .1 .1)
-
-  analyze-stmt-reset-requires : analyze-stmt-asks analyze-stmt-lts.Need-reset-requires
-  analyze-stmt-reset-requires c κs = (c .before .before .before .before .before .before .before .before .pre .1 .0 .0, c .before .before .before .before .before .before .before .before .pre .1 .0 .1, c .before .before .before .before .before .before .before .before .pre .1 .0 .2, c .before .before .before .before .before .before .before .before .pre .1 .0 .3, c .before .before .match .keys9)
-
-  analyze-stmt-barrier-requires : analyze-stmt-asks analyze-stmt-lts.Need-barrier-requires
-  analyze-stmt-barrier-requires c κs = (c .before .before .before .before .before .before .before .before .pre .1 .0 .0, c .before .before .before .before .before .before .before .before .pre .1 .0 .1, c .before .before .before .before .before .before .before .before .pre .1 .0 .2, c .before .before .before .before .before .before .before .before .pre .1 .0 .3, c .before .before .match .keys10)
-
-  analyze-stmt-delay-requires : analyze-stmt-asks analyze-stmt-lts.Need-delay-requires
-  analyze-stmt-delay-requires c κs = (c .before .before .before .before .before .before .before .before .pre .1 .0 .0, c .before .before .before .before .before .before .before .before .pre .1 .0 .1, c .before .before .before .before .before .before .before .before .pre .1 .0 .2, c .before .before .before .before .before .before .before .before .pre .1 .0 .3, c .before .before .match .keys11)
-
   analyze-stmt-branch-requires : analyze-stmt-asks analyze-stmt-lts.Need-branch-requires
-  analyze-stmt-branch-requires c κs = (omega arith, ((c .before .before .before .before .before .before .before .before .pre .1 .0 .0, c .before .before .before .before .before .before .before .before .pre .1 .0 .1, c .before .before .before .before .before .before .before .before .pre .1 .0 .2, c .before .before .before .before .before .before .before .before .pre .1 .0 .3, c .before .before .match .keys12), c .before .before .before .before .before .before .before .before .pre .1 .1))
+  analyze-stmt-branch-requires c κs = (omega arith, ((c .before .before .before .before .before .before .before .before .pre .1 .0 .0, c .before .before .before .before .before .before .before .before .pre .1 .0 .1, c .before .before .before .before .before .before .before .before .pre .1 .0 .2, c .before .before .before .before .before .before .before .before .pre .1 .0 .3, c .before .before .match .keys8), c .before .before .before .before .before .before .before .before .pre .1 .1))
 
   analyze-stmt-for-loop-requires : analyze-stmt-asks analyze-stmt-lts.Need-for-loop-requires
-  analyze-stmt-for-loop-requires c κs = (omega arith, ((c .before .before .before .before .before .before .before .before .pre .1 .0 .0, c .before .before .before .before .before .before .before .before .pre .1 .0 .1, c .before .before .before .before .before .before .before .before .pre .1 .0 .2, c .before .before .before .before .before .before .before .before .pre .1 .0 .3, c .before .before .match .keys13), c .before .before .before .before .before .before .before .before .pre .1 .1))
+  analyze-stmt-for-loop-requires c κs = (omega arith, ((c .before .before .before .before .before .before .before .before .pre .1 .0 .0, c .before .before .before .before .before .before .before .before .pre .1 .0 .1, c .before .before .before .before .before .before .before .before .pre .1 .0 .2, c .before .before .before .before .before .before .before .before .pre .1 .0 .3, c .before .before .match .keys9), c .before .before .before .before .before .before .before .before .pre .1 .1))
 
   analyze-stmt-while-loop-requires : analyze-stmt-asks analyze-stmt-lts.Need-while-loop-requires
-  analyze-stmt-while-loop-requires c κs = (omega arith, ((c .before .before .before .before .before .before .before .before .pre .1 .0 .0, c .before .before .before .before .before .before .before .before .pre .1 .0 .1, c .before .before .before .before .before .before .before .before .pre .1 .0 .2, c .before .before .before .before .before .before .before .before .pre .1 .0 .3, (let r = c .before .before .match .rest in last-case 14 _ (((((((((r .0 .0 .0 .0 .0 .0 .0 .0, c .before .before .before .before .before .before .before .before .pre .1 .0 .4), r .0 .0 .0 .0 .0 .0 .0 .1), r .0 .0 .0 .0 .0 .0 .1), r .0 .0 .0 .0 .0 .1), r .0 .0 .0 .0 .1), r .0 .0 .0 .1), r .0 .0 .1), r .0 .1), r .1) (stmt-below _ _ _ _ (c .before .before .before .before .before .before .before .before .pre .1 .0 .2)))), c .before .before .before .before .before .before .before .before .pre .1 .1))
+  unfolding isOperation
+  analyze-stmt-while-loop-requires c κs = (omega arith, ((c .before .before .before .before .before .before .before .before .pre .1 .0 .0, c .before .before .before .before .before .before .before .before .pre .1 .0 .1, c .before .before .before .before .before .before .before .before .pre .1 .0 .2, c .before .before .before .before .before .before .before .before .pre .1 .0 .3, (let r = c .before .before .match .rest in let o = c .before .before .before .before .before .before .before .before .pre .1 .0 .4 in last-case 14 _ (((((((((r .0 .0 .0 .0, no-operation _ 5 o refl), r .0 .0 .0 .1), r .0 .0 .1), no-operation _ 8 o refl), no-operation _ 9 o refl), no-operation _ 10 o refl), no-operation _ 11 o refl), r .0 .1), r .1) (stmt-below _ _ _ _ (c .before .before .before .before .before .before .before .before .pre .1 .0 .2)))), c .before .before .before .before .before .before .before .before .pre .1 .1))
 
   analyze-stmt-closed : {M : Type 1} → analyze-stmt-lts.Closed analyze-stmt-calls analyze-stmt-at analyze-stmt.Post M
   analyze-stmt-closed =
@@ -160,8 +156,7 @@ module _ (t : ℕ) where
       (λ c. stmt-in _ _ _ _ (c .before .before .before .before .before .pre .1 .0 .2))  -- shared-slice-read-match: match tree[at] {
       analyze-stmt-include-requires analyze-stmt-register-requires analyze-stmt-register-requires-2
       analyze-stmt-classical-decl-requires analyze-stmt-assignment-requires
-      analyze-stmt-gate-def-requires analyze-stmt-function-def-requires analyze-stmt-measure-requires
-      analyze-stmt-reset-requires analyze-stmt-barrier-requires analyze-stmt-delay-requires
+      analyze-stmt-gate-def-requires analyze-stmt-function-def-requires
       analyze-stmt-branch-requires analyze-stmt-for-loop-requires analyze-stmt-while-loop-requires
       (λ c. search needs)  -- same-length: fn analyze_stmt(tree: &[u8], index: &[u64], scratch: &mut [u ..
       (λ c. search needs)  -- same-length-2
@@ -193,62 +188,53 @@ module _ (t : ℕ) where
       (λ c. search needs)  -- same-length-19
       (λ c. search needs)  -- same-length-20
       (λ c. search needs)  -- returns-10
-      (λ c. search needs)  -- same-length-21
-      (λ c. search needs)  -- same-length-22
-      (λ c. search needs)  -- returns-11
-      (λ c. search needs)  -- same-length-23
-      (λ c. search needs)  -- same-length-24
-      (λ c. search needs)  -- returns-12
-      (λ c. search needs)  -- same-length-25
-      (λ c. search needs)  -- same-length-26
-      (λ c. search needs)  -- returns-13
-      (λ c. search needs)  -- same-length-27
-      (λ c. search needs)  -- same-length-28
-      (λ c. search needs)  -- returns-14
 
   abbrev analyze-stmts-calls : analyze-stmts-lts.Claims
-  analyze-stmts-calls = (accepted.numbers.u16_at.Reads.Asked, accepted.numbers.u16_at.Reads.Learnt, bodies.past_count.Reads.Asked, bodies.past_count.Reads.Learnt, operations.gate_call.Reads.Asked, operations.gate_call.Reads.Learnt, analyze-stmt-below, analyze-stmt.Post)
+  analyze-stmts-calls = (accepted.numbers.u16_at.Reads.Asked, accepted.numbers.u16_at.Reads.Learnt, operations.is_operation.Reads.Asked, operations.is_operation.Reads.Learnt, operations.operation.Reads.Asked, operations.operation.Reads.Learnt, analyze-stmt-below, analyze-stmt.Post)
 
   abbrev analyze-stmts-asks : (analyze-stmts-lts.Claims → In 4 analyze-stmts-lts.ps → Out 4 analyze-stmts-lts.ps analyze-stmts-lts.r → analyze-stmts-lts.InvT-loop → analyze-stmts-lts.MeasureT-loop → Type 0) → Type 0
   analyze-stmts-asks Need = Need analyze-stmts-calls analyze-stmts-at analyze-stmts.Post analyze-stmts-Inv-loop analyze-stmts-μ-loop
 
   analyze-stmts-loop-holds : analyze-stmts-asks analyze-stmts-lts.Need-loop-holds
-  analyze-stmts-loop-holds c = going-start _ _ _ _ _ _ _ _ _ (c .before .before .before .before .before .before .pre .1 .0 .2) (c .before .u16-at .ensures .0) (c .past-count .ensures .0) (ready-as (c .before .before .before .before .before .before .pre .1 .0 .1) (c .past-count .ensures .1) (c .past-count .ensures .2)) (c .before .before .before .before .before .before .pre .1 .1)
+  analyze-stmts-loop-holds c = going-start _ _ _ _ _ _ _ _ _ (c .before .before .before .before .before .pre .1 .0 .2) (c .u16-at .ensures .0) refl (ready-as (c .before .before .before .before .before .pre .1 .0 .1) refl refl) (c .before .before .before .before .before .pre .1 .1)
 
-  analyze-stmts-shared-slice-read-if1 : analyze-stmts-asks analyze-stmts-lts.Need-shared-slice-read-if1
-  analyze-stmts-shared-slice-read-if1 c = stmt-in _ _ _ _ (going-stmt _ _ _ _ _ _ _ _ _ _ _ _ (c .before .before .loop .inv) (c .before .loop-test .taken))
+  analyze-stmts-shared-slice-read-is-operation : analyze-stmts-asks analyze-stmts-lts.Need-shared-slice-read-is-operation
+  analyze-stmts-shared-slice-read-is-operation c = stmt-in _ _ _ _ (going-stmt _ _ _ _ _ _ _ _ _ _ _ _ (c .before .before .loop .inv) (c .before .loop-test .taken))
 
-  analyze-stmts-gate-call-requires : analyze-stmts-asks analyze-stmts-lts.Need-gate-call-requires
-  analyze-stmts-gate-call-requires c κs =
-      let p = c .before .before .before .before .before .before .before .before .before .before .before .before .before .before .before .pre .1 .0 in
+  analyze-stmts-operation-requires : analyze-stmts-asks analyze-stmts-lts.Need-operation-requires
+  analyze-stmts-operation-requires c κs =
+      let p = c .before .before .before .before .before .before .before .before .before .before .before .before .before .before .pre .1 .0 in
       let i = c .before .before .before .before .before .before .before .before .loop .inv in
-      (p .0, i .ready, going-stmt _ _ _ _ _ _ _ _ _ _ _ _ i (c .before .before .before .before .before .before .before .loop-test .taken), p .3, c .before .before .before .before .before .if1 .taken)
+      let l = c .before .before .before .before .before .before .before .loop-test .taken in
+      ((p .0, i .ready, going-stmt _ _ _ _ _ _ _ _ _ _ _ _ i l, p .3, sym (c .before .before .before .before .before .is-operation .ensures) ∙ c .before .before .before .before .if1 .taken), going-keyed _ _ _ _ _ _ _ _ _ _ _ _ i l)
 
   analyze-stmts-analyze-stmt-requires : analyze-stmts-asks analyze-stmts-lts.Need-analyze-stmt-requires
   analyze-stmts-analyze-stmt-requires c κs =
       let p = c .before .before .before .before .before .before .before .before .before .before .before .before .pre .1 .0 in
-      let i = c .before .before .before .before .before .loop .inv in
-      let l = c .before .before .before .before .loop-test .taken in
-      (omega arith, ((p .0, i .ready, going-stmt _ _ _ _ _ _ _ _ _ _ _ _ i l, p .3, c .before .before .if1 .left), going-keyed _ _ _ _ _ _ _ _ _ _ _ _ i l))
+      let i = c .before .before .before .before .before .before .loop .inv in
+      let l = c .before .before .before .before .before .loop-test .taken in
+      (omega arith, ((p .0, i .ready, going-stmt _ _ _ _ _ _ _ _ _ _ _ _ i l, p .3, sym (c .before .before .before .is-operation .ensures) ∙ c .before .before .if1 .left), going-keyed _ _ _ _ _ _ _ _ _ _ _ _ i l))
 
   analyze-stmts-loop-again : analyze-stmts-asks analyze-stmts-lts.Need-loop-again
   analyze-stmts-loop-again c =
-      let i = c .before .before .before .loop .inv in
-      let l = c .before .before .loop-test .taken in
+      let i = c .before .before .before .before .loop .inv in
+      let l = c .before .before .before .loop-test .taken in
       ⊎-elim
-      (λ w. going-as (going-more _ _ _ _ _ _ _ _ _ _ _ _ i l _ _ _ (w .6 .ensures) (w .7 .given)) (w .10) (w .11) (w .12))
+      (λ w. going-as (going-more _ _ _ _ _ _ _ _ _ _ _ _ i l _ _ _ (w .5 .ensures) (w .6 .given)) (w .9) (w .10) (w .11))
       (λ w. going-as (going-more _ _ _ _ _ _ _ _ _ _ _ _ i l _ _ _ (w .3 .ensures) (w .6 .given)) (w .8) (w .9) (w .10))
       (c .if1 .came)
 
   analyze-stmts-returns : analyze-stmts-asks analyze-stmts-lts.Need-returns
-  analyze-stmts-returns c = going-end _ _ _ _ _ _ _ _ _ _ _ _ (c .before .loop .inv) (c .loop-test .left) _ refl (c .before .before .past-count .ensures .1) (c .before .before .past-count .ensures .2)
+  analyze-stmts-returns c = going-end _ _ _ _ _ _ _ _ _ _ _ _ (c .before .loop .inv) (c .loop-test .left) _ refl refl refl
 
   analyze-stmts-closed : {M : Type 1} → analyze-stmts-lts.Closed analyze-stmts-calls analyze-stmts-at analyze-stmts.Post M
   analyze-stmts-closed =
       analyze-stmts-lts.spec analyze-stmts-calls analyze-stmts-at analyze-stmts.Post analyze-stmts-Inv-loop analyze-stmts-μ-loop
       (λ c κs. body-in _ _ _ (c .before .before .before .before .pre .1 .0 .2))  -- u16-at-requires: let mut n = u16_at(tree, at);
-      (λ c κs. omega (arith, body-in _ _ _ (c .before .before .before .before .before .pre .1 .0 .2), c .before .before .before .before .before .pre .1 .0 .0 .small))  -- past-count-requires: let mut s = bodies::past_count(st);
-      analyze-stmts-loop-holds analyze-stmts-shared-slice-read-if1 analyze-stmts-gate-call-requires
+      (λ c. omega (arith, body-in _ _ _ (c .before .before .before .before .before .pre .1 .0 .2), c .before .before .before .before .before .pre .1 .0 .0 .small))  -- add-s: s.at = at + 2;
+      analyze-stmts-loop-holds analyze-stmts-shared-slice-read-is-operation
+      (λ c κs. search needs)  -- is-operation-requires: if is_operation(tree[k]) {
+      analyze-stmts-operation-requires
       analyze-stmts-analyze-stmt-requires
       (λ c. search needs)  -- sub-n: n -= 1;
       (λ c. search needs)  -- loop-less: while 0 < n {
@@ -258,157 +244,151 @@ module _ (t : ℕ) where
       analyze-stmts-returns
 
   abbrev branch-calls : branch-lts.Claims
-  branch-calls = (bodies.open_if.Reads.Asked, bodies.open_if.Reads.Learnt, analyze-stmts-below, analyze-stmts.Post, bodies.back.Reads.Asked, bodies.back.Reads.Learnt, branch-else-below, branch-else.Post, bodies.closed.Reads.Asked, bodies.closed.Reads.Learnt)
+  branch-calls = (bodies.open_if.Reads.Asked, bodies.open_if.Reads.Learnt, analyze-stmts-below, analyze-stmts.Post, branch-else-below, branch-else.Post)
 
   abbrev branch-asks : (branch-lts.Claims → In 4 branch-lts.ps → Out 4 branch-lts.ps branch-lts.r → Type 0) → Type 0
   branch-asks Need = Need branch-calls branch-at branch.Post
 
   branch-open-if-requires : branch-asks branch-lts.Need-open-if-requires
-  branch-open-if-requires c κs = (c .before .before .before .before .before .before .pre .1 .0 .0 .texts, c .before .before .before .before .before .before .pre .1 .0 .0 .small, c .before .before .before .before .before .before .pre .1 .0 .1, c .before .before .before .before .before .before .pre .1 .0 .2, c .before .before .before .before .before .before .pre .1 .0 .3, c .before .before .before .before .before .before .pre .1 .0 .4)
+  branch-open-if-requires c κs = (c .before .before .before .before .before .before .before .before .pre .1 .0 .0 .texts, c .before .before .before .before .before .before .before .before .pre .1 .0 .0 .small, c .before .before .before .before .before .before .before .before .pre .1 .0 .1 .room, c .before .before .before .before .before .before .before .before .pre .1 .0 .1 .fits, c .before .before .before .before .before .before .before .before .pre .1 .0 .2, c .before .before .before .before .before .before .before .before .pre .1 .0 .3, c .before .before .before .before .before .before .before .before .pre .1 .0 .4)
 
   branch-analyze-stmts-requires : branch-asks branch-lts.Need-analyze-stmts-requires
-  branch-analyze-stmts-requires c κs = (omega (arith, stmt-left _ _ _ _ (c .before .before .before .before .before .before .before .before .before .before .before .before .before .pre .1 .0 .2)), ((c .before .before .before .before .before .before .before .before .before .before .before .before .before .pre .1 .0 .0, opened-ready _ [] (c .before .before .before .before .before .before .open-if .ensures) (c .before .before .before .before .before .before .before .before .before .before .before .before .before .pre .1 .0 .1), then-held _ [] 0 _ _ (c .before .before .before .before .before .before .before .before .before .before .before .before .before .pre .1 .0 .2) (c .before .before .before .before .before .before .before .before .before .before .before .before .before .pre .1 .0 .3) (c .before .before .before .before .before .before .before .before .before .before .before .before .before .pre .1 .0 .4) _ _ _ _ _ (c .before .before .before .before .before .before .open-if .ensures), omega arith), then-keyed _ _ _ _ _ (c .before .before .before .before .before .before .before .before .before .before .before .before .before .pre .1 .0 .2) (c .before .before .before .before .before .before .before .before .before .before .before .before .before .pre .1 .0 .3) (c .before .before .before .before .before .before .before .before .before .before .before .before .before .pre .1 .0 .4) _ _ _ _ _ (c .before .before .before .before .before .before .open-if .ensures) (c .before .before .before .before .before .before .before .before .before .before .before .before .before .pre .1 .1)))
+  branch-analyze-stmts-requires c κs = (omega (arith, stmt-left _ _ _ _ (c .before .before .before .before .before .before .before .before .before .before .before .before .before .before .before .before .pre .1 .0 .2)), ((c .before .before .before .before .before .before .before .before .before .before .before .before .before .before .before .before .pre .1 .0 .0, opened-ready _ [] (c .before .before .before .before .before .before .before .open-if .ensures (c .before .before .before .before .before .before .before .before .before .before .before .before .before .before .before .before .args .st .marks)) (c .before .before .before .before .before .before .before .before .before .before .before .before .before .before .before .before .pre .1 .0 .1), then-held _ [] 0 _ _ (c .before .before .before .before .before .before .before .before .before .before .before .before .before .before .before .before .pre .1 .0 .2) (c .before .before .before .before .before .before .before .before .before .before .before .before .before .before .before .before .pre .1 .0 .3) (c .before .before .before .before .before .before .before .before .before .before .before .before .before .before .before .before .pre .1 .0 .4) _ _ _ _ _ (c .before .before .before .before .before .before .before .open-if .ensures (c .before .before .before .before .before .before .before .before .before .before .before .before .before .before .before .before .args .st .marks)), omega arith), then-keyed _ _ _ _ _ (c .before .before .before .before .before .before .before .before .before .before .before .before .before .before .before .before .pre .1 .0 .2) (c .before .before .before .before .before .before .before .before .before .before .before .before .before .before .before .before .pre .1 .0 .3) (c .before .before .before .before .before .before .before .before .before .before .before .before .before .before .before .before .pre .1 .0 .4) _ _ _ _ _ (c .before .before .before .before .before .before .before .open-if .ensures (c .before .before .before .before .before .before .before .before .before .before .before .before .before .before .before .before .args .st .marks)) (c .before .before .before .before .before .before .before .before .before .before .before .before .before .before .before .before .pre .1 .1)))
 
   branch-branch-else-requires : branch-asks branch-lts.Need-branch-else-requires
-  branch-branch-else-requires c κs = (omega (arith, c .before .before .before .before .before .before .before .before .before .before .before .before .before .before .before .before .before .before .before .before .before .before .pre .0), ((c .before .before .before .before .before .before .before .before .before .before .before .before .before .before .before .before .before .before .before .before .before .before .pre .1 .0 .0, else-ready _ _ _ _ _ (c .before .before .before .before .before .before .before .before .before .before .before .before .before .before .before .before .before .before .before .before .before .before .pre .1 .0 .2) (c .before .before .before .before .before .before .before .before .before .before .before .before .before .before .before .before .before .before .before .before .before .before .pre .1 .0 .3) (c .before .before .before .before .before .before .before .before .before .before .before .before .before .before .before .before .before .before .before .before .before .before .pre .1 .0 .4) _ _ _ _ _ (c .before .before .before .before .before .before .before .before .before .before .before .before .before .before .before .open-if .ensures) _ _ _ (c .before .before .before .before .before .before .before .before .analyze-stmts .ensures) _ (c .back .ensures .0) (c .back .ensures .1) (c .back .ensures .2) (c .before .before .before .before .before .before .before .before .before .before .before .before .before .before .before .before .before .before .before .before .before .before .pre .1 .0 .1), c .before .before .before .before .before .before .before .before .analyze-stmts .ensures .placed, else-held _ _ _ _ _ (c .before .before .before .before .before .before .before .before .before .before .before .before .before .before .before .before .before .before .before .before .before .before .pre .1 .0 .2) (c .before .before .before .before .before .before .before .before .before .before .before .before .before .before .before .before .before .before .before .before .before .before .pre .1 .0 .3) (c .before .before .before .before .before .before .before .before .before .before .before .before .before .before .before .before .before .before .before .before .before .before .pre .1 .0 .4) _ _ _ _ _ (c .before .before .before .before .before .before .before .before .before .before .before .before .before .before .before .open-if .ensures) _ _ _ (c .before .before .before .before .before .before .before .before .analyze-stmts .ensures) _ (c .back .ensures .0) (c .back .ensures .1) (c .back .ensures .2), stmt-left _ _ _ _ (c .before .before .before .before .before .before .before .before .before .before .before .before .before .before .before .before .before .before .before .before .before .before .pre .1 .0 .2), c .before .before .before .before .before .before .before .before .before .before .before .before .before .before .before .before .before .before .before .before .before .before .pre .1 .0 .3), else-keyed _ _ _ _ _ (c .before .before .before .before .before .before .before .before .before .before .before .before .before .before .before .before .before .before .before .before .before .before .pre .1 .0 .2) (c .before .before .before .before .before .before .before .before .before .before .before .before .before .before .before .before .before .before .before .before .before .before .pre .1 .0 .3) (c .before .before .before .before .before .before .before .before .before .before .before .before .before .before .before .before .before .before .before .before .before .before .pre .1 .0 .4) _ _ _ _ _ (c .before .before .before .before .before .before .before .before .before .before .before .before .before .before .before .open-if .ensures) _ _ _ (c .before .before .before .before .before .before .before .before .analyze-stmts .ensures) _ (c .back .ensures .0) (c .back .ensures .1) (c .back .ensures .2) (c .before .before .before .before .before .before .before .before .before .before .before .before .before .before .before .before .before .before .before .before .before .before .pre .1 .1)))
-
-  branch-closed-requires : branch-asks branch-lts.Need-closed-requires
-  branch-closed-requires c κs = omega (arith, if-room _ _ _ _ _ (c .before .before .before .before .before .before .before .before .before .before .before .before .before .before .before .before .before .before .before .before .before .before .before .before .before .before .before .pre .1 .0 .2) (c .before .before .before .before .before .before .before .before .before .before .before .before .before .before .before .before .before .before .before .before .before .before .before .before .before .before .before .pre .1 .0 .3) (c .before .before .before .before .before .before .before .before .before .before .before .before .before .before .before .before .before .before .before .before .before .before .before .before .before .before .before .pre .1 .0 .4) _ _ _ _ _ (c .before .before .before .before .before .before .before .before .before .before .before .before .before .before .before .before .before .before .before .before .open-if .ensures) _ _ _ (c .before .before .before .before .before .before .before .before .before .before .before .before .before .analyze-stmts .ensures) _ (c .before .before .before .before .before .back .ensures .0) (c .before .before .before .before .before .back .ensures .1) (c .before .before .before .before .before .back .ensures .2) _ _ _ (c .before .before .before .before .branch-else .ensures), c .before .before .before .before .before .before .before .before .before .before .before .before .before .before .before .before .before .before .before .before .before .before .before .before .before .before .before .pre .1 .0 .0 .small)
-
-  branch-same-length : branch-asks branch-lts.Need-same-length
-  branch-same-length c = omega (arith, c .before .before .before .before .before .before .before .before .before .before .before .before .before .before .before .before .before .before .before .before .scratch .given, c .before .before .before .before .before .before .before .before .before .before .before .before .before .scratch2 .given, c .before .before .before .before .scratch3 .given)
-
-  branch-same-length-2 : branch-asks branch-lts.Need-same-length-2
-  branch-same-length-2 c = omega (arith, c .before .before .before .before .before .before .before .before .before .before .before .before .before .before .before .before .before .before .out .given, c .before .before .before .before .before .before .before .before .before .before .before .out2 .given, c .before .before .out3 .given)
+  branch-branch-else-requires c κs = (omega (arith, c .before .before .before .before .before .before .before .before .before .before .before .before .before .before .before .before .before .before .before .before .before .before .before .before .pre .0), ((c .before .before .before .before .before .before .before .before .before .before .before .before .before .before .before .before .before .before .before .before .before .before .before .before .pre .1 .0 .0, else-ready _ _ _ _ _ (c .before .before .before .before .before .before .before .before .before .before .before .before .before .before .before .before .before .before .before .before .before .before .before .before .pre .1 .0 .2) (c .before .before .before .before .before .before .before .before .before .before .before .before .before .before .before .before .before .before .before .before .before .before .before .before .pre .1 .0 .3) (c .before .before .before .before .before .before .before .before .before .before .before .before .before .before .before .before .before .before .before .before .before .before .before .before .pre .1 .0 .4) _ _ _ _ _ (c .before .before .before .before .before .before .before .before .before .before .before .before .before .before .before .open-if .ensures (c .before .before .before .before .before .before .before .before .before .before .before .before .before .before .before .before .before .before .before .before .before .before .before .before .args .st .marks)) _ _ _ (c .before .before .before .before .before .before .before .analyze-stmts .ensures) _ refl refl refl (c .before .before .before .before .before .before .before .before .before .before .before .before .before .before .before .before .before .before .before .before .before .before .before .before .pre .1 .0 .1), c .before .before .before .before .before .before .before .analyze-stmts .ensures .placed, else-held _ _ _ _ _ (c .before .before .before .before .before .before .before .before .before .before .before .before .before .before .before .before .before .before .before .before .before .before .before .before .pre .1 .0 .2) (c .before .before .before .before .before .before .before .before .before .before .before .before .before .before .before .before .before .before .before .before .before .before .before .before .pre .1 .0 .3) (c .before .before .before .before .before .before .before .before .before .before .before .before .before .before .before .before .before .before .before .before .before .before .before .before .pre .1 .0 .4) _ _ _ _ _ (c .before .before .before .before .before .before .before .before .before .before .before .before .before .before .before .open-if .ensures (c .before .before .before .before .before .before .before .before .before .before .before .before .before .before .before .before .before .before .before .before .before .before .before .before .args .st .marks)) _ _ _ (c .before .before .before .before .before .before .before .analyze-stmts .ensures) _ refl refl refl, stmt-left _ _ _ _ (c .before .before .before .before .before .before .before .before .before .before .before .before .before .before .before .before .before .before .before .before .before .before .before .before .pre .1 .0 .2), c .before .before .before .before .before .before .before .before .before .before .before .before .before .before .before .before .before .before .before .before .before .before .before .before .pre .1 .0 .3), else-keyed _ _ _ _ _ (c .before .before .before .before .before .before .before .before .before .before .before .before .before .before .before .before .before .before .before .before .before .before .before .before .pre .1 .0 .2) (c .before .before .before .before .before .before .before .before .before .before .before .before .before .before .before .before .before .before .before .before .before .before .before .before .pre .1 .0 .3) (c .before .before .before .before .before .before .before .before .before .before .before .before .before .before .before .before .before .before .before .before .before .before .before .before .pre .1 .0 .4) _ _ _ _ _ (c .before .before .before .before .before .before .before .before .before .before .before .before .before .before .before .open-if .ensures (c .before .before .before .before .before .before .before .before .before .before .before .before .before .before .before .before .before .before .before .before .before .before .before .before .args .st .marks)) _ _ _ (c .before .before .before .before .before .before .before .analyze-stmts .ensures) _ refl refl refl (c .before .before .before .before .before .before .before .before .before .before .before .before .before .before .before .before .before .before .before .before .before .before .before .before .pre .1 .1)))
 
   branch-returns : branch-asks branch-lts.Need-returns
-  branch-returns c = if-walked _ _ _ _ _ (c .before .before .before .before .before .before .before .before .before .before .before .before .before .before .before .before .before .before .before .before .before .before .before .before .before .before .before .before .pre .1 .0 .2) (c .before .before .before .before .before .before .before .before .before .before .before .before .before .before .before .before .before .before .before .before .before .before .before .before .before .before .before .before .pre .1 .0 .3) (c .before .before .before .before .before .before .before .before .before .before .before .before .before .before .before .before .before .before .before .before .before .before .before .before .before .before .before .before .pre .1 .0 .4) _ _ _ _ _ (c .before .before .before .before .before .before .before .before .before .before .before .before .before .before .before .before .before .before .before .before .before .open-if .ensures) _ _ _ (c .before .before .before .before .before .before .before .before .before .before .before .before .before .before .analyze-stmts .ensures) _ (c .before .before .before .before .before .before .back .ensures .0) (c .before .before .before .before .before .before .back .ensures .1) (c .before .before .before .before .before .before .back .ensures .2) _ _ _ (c .before .before .before .before .before .branch-else .ensures) _ (c .closed .ensures .0) (c .closed .ensures .1) (c .closed .ensures .2)
+  branch-returns c = if-walked _ _ _ _ _ (c .before .before .before .before .before .before .before .before .before .before .before .before .before .before .before .before .before .before .before .before .before .before .before .before .before .before .before .before .before .before .pre .1 .0 .2) (c .before .before .before .before .before .before .before .before .before .before .before .before .before .before .before .before .before .before .before .before .before .before .before .before .before .before .before .before .before .before .pre .1 .0 .3) (c .before .before .before .before .before .before .before .before .before .before .before .before .before .before .before .before .before .before .before .before .before .before .before .before .before .before .before .before .before .before .pre .1 .0 .4) _ _ _ _ _ (c .before .before .before .before .before .before .before .before .before .before .before .before .before .before .before .before .before .before .before .before .before .open-if .ensures (c .before .before .before .before .before .before .before .before .before .before .before .before .before .before .before .before .before .before .before .before .before .before .before .before .before .before .before .before .before .before .args .st .marks)) _ _ _ (c .before .before .before .before .before .before .before .before .before .before .before .before .before .analyze-stmts .ensures) _ refl refl refl _ _ _ (c .before .before .before .before .before .branch-else .ensures) _ refl refl refl
 
   branch-closed : {M : Type 1} → branch-lts.Closed branch-calls branch-at branch.Post M
   branch-closed =
       branch-lts.spec branch-calls branch-at branch.Post
       branch-open-if-requires
-      (λ c. omega (arith, stmt-left _ _ _ _ (c .before .before .before .before .before .before .before .before .before .before .before .before .before .pre .1 .0 .2)))  -- sub-analyze-stmts: let t = analyze_stmts(tree, index, scratch, out, keys, left  ..
-      branch-analyze-stmts-requires
-      (λ c κs. search needs)  -- back-requires: let e = branch_else(tree, index, scratch, out, keys, left, m ..
-      branch-branch-else-requires branch-closed-requires branch-same-length branch-same-length-2 branch-returns
+      (λ c. omega (arith, stmt-left _ _ _ _ (c .before .before .before .before .before .before .before .before .before .before .before .before .before .before .before .before .pre .1 .0 .2)))  -- sub-analyze-stmts: let t = analyze_stmts(tree, index, scratch, out, keys, left  ..
+      branch-analyze-stmts-requires branch-branch-else-requires
+      (λ c. omega (arith, if-room _ _ _ _ _ (c .before .before .before .before .before .before .before .before .before .before .before .before .before .before .before .before .before .before .before .before .before .before .before .before .before .before .before .before .before .before .pre .1 .0 .2) (c .before .before .before .before .before .before .before .before .before .before .before .before .before .before .before .before .before .before .before .before .before .before .before .before .before .before .before .before .before .before .pre .1 .0 .3) (c .before .before .before .before .before .before .before .before .before .before .before .before .before .before .before .before .before .before .before .before .before .before .before .before .before .before .before .before .before .before .pre .1 .0 .4) _ _ _ _ _ (c .before .before .before .before .before .before .before .before .before .before .before .before .before .before .before .before .before .before .before .before .before .open-if .ensures (c .before .before .before .before .before .before .before .before .before .before .before .before .before .before .before .before .before .before .before .before .before .before .before .before .before .before .before .before .before .before .args .st .marks)) _ _ _ (c .before .before .before .before .before .before .before .before .before .before .before .before .before .analyze-stmts .ensures) _ refl refl refl _ _ _ (c .before .before .before .before .before .branch-else .ensures), c .before .before .before .before .before .before .before .before .before .before .before .before .before .before .before .before .before .before .before .before .before .before .before .before .before .before .before .before .before .before .pre .1 .0 .0 .small))  -- add-e: e.at = e.at + 8;
+      (λ c. omega (arith, c .before .before .before .before .before .before .before .before .before .before .before .before .before .before .before .before .before .before .before .before .scratch .given, c .before .before .before .before .before .before .before .before .before .before .before .before .scratch2 .given, c .before .before .before .before .scratch3 .given))  -- same-length: fn branch(tree: &[u8], index: &[u64], scratch: &mut [u8],  ..
+      (λ c. omega (arith, c .before .before .before .before .before .before .before .before .before .before .before .before .before .before .before .before .before .before .out .given, c .before .before .before .before .before .before .before .before .before .before .out2 .given, c .before .before .out3 .given))  -- same-length-2
+      branch-returns
 
   abbrev branch-else-calls : branch-else-lts.Claims
-  branch-else-calls = (bodies.united.Reads.Asked, bodies.united.Reads.Learnt, bodies.open_else.Reads.Asked, bodies.open_else.Reads.Learnt, analyze-stmts-below, analyze-stmts.Post)
+  branch-else-calls = (sheet.unite.Reads.Asked, sheet.unite.Reads.Learnt, tables.enter.Reads.Asked, tables.enter.Reads.Learnt, analyze-stmts-below, analyze-stmts.Post)
 
-  abbrev branch-else-asks : (branch-else-lts.Claims → In 4 branch-else-lts.ps → Out 4 branch-else-lts.ps branch-else-lts.r → Type 0) → Type 0
+  abbrev branch-else-asks : (branch-else-lts.Claims → In 5 branch-else-lts.ps → Out 5 branch-else-lts.ps branch-else-lts.r → Type 0) → Type 0
   branch-else-asks Need = Need branch-else-calls branch-else-at branch-else.Post
 
-  branch-else-add-united : branch-else-asks branch-else-lts.Need-add-united
-  branch-else-add-united c = omega (arith, else-in _ _ _ (c .before .before .before .before .before .before .before .pre .1 .0 .3), c .before .before .before .before .before .before .before .pre .1 .0 .0 .small)
-
   branch-else-returns : branch-else-asks branch-else-lts.Need-returns
-  branch-else-returns c = none-walked _ _ _ _ _ _ _ _ (c .before .before .before .before .before .before .before .before .pre .1 .0 .4) (c .before .before .before .before .before .before .before .before .pre .1 .0 .5) (c .before .before .before .before .before .before .before .before .pre .1 .0 .3) (c .before .if1 .taken) (c .before .before .before .before .before .before .before .before .pre .1 .0 .1) _ (c .united .ensures .0) (c .united .ensures .1) (c .united .ensures .2 _ (c .before .before .before .before .before .before .before .before .pre .1 .0 .1 .placed) (c .before .before .before .before .before .before .before .before .pre .1 .0 .2)) (c .united .ensures .3 _ _)
-
-  branch-else-open-else-requires : branch-else-asks branch-else-lts.Need-open-else-requires
-  branch-else-open-else-requires c κs = (c .before .before .before .before .before .before .before .before .pre .1 .0 .1 .room, c .before .before .before .before .before .before .before .before .pre .1 .0 .1 .fits, c .before .before .before .before .before .before .before .before .pre .1 .0 .4, c .before .before .before .before .before .before .before .before .pre .1 .0 .5, omega (arith, else-in _ _ _ (c .before .before .before .before .before .before .before .before .pre .1 .0 .3), c .before .before .before .before .before .before .before .before .pre .1 .0 .0 .small))
+  branch-else-returns c = none-walked _ _ _ _ _ _ _ _ (c .before .before .before .before .before .before .before .before .before .pre .1 .0 .4) (c .before .before .before .before .before .before .before .before .before .pre .1 .0 .5) (c .before .before .before .before .before .before .before .before .before .pre .1 .0 .3) (c .before .before .if1 .taken) (c .before .before .before .before .before .before .before .before .before .pre .1 .0 .1) _ refl refl (c .unite .ensures .0 _ (c .before .before .before .before .before .before .before .before .before .pre .1 .0 .1 .placed) (c .before .before .before .before .before .before .before .before .before .pre .1 .0 .2)) (c .unite .ensures .1 _ _)
 
   branch-else-analyze-stmts-requires : branch-else-asks branch-else-lts.Need-analyze-stmts-requires
-  branch-else-analyze-stmts-requires c κs = (omega (arith, c .before .before .before .before .before .before .before .before .before .before .before .before .before .pre .1 .0 .4), ((c .before .before .before .before .before .before .before .before .before .before .before .before .before .pre .1 .0 .0, opened-ready _ [] (c .before .before .before .before .open-else .ensures [] []) (c .before .before .before .before .before .before .before .before .before .before .before .before .before .pre .1 .0 .1), some-held _ [] 0 _ [] _ _ [] (c .before .before .before .before .before .before .before .before .before .before .before .before .before .pre .1 .0 .4) (c .before .before .before .before .before .before .before .before .before .before .before .before .before .pre .1 .0 .5) (c .before .before .before .before .before .before .before .before .before .before .before .before .before .pre .1 .0 .3) (c .before .before .before .before .before .before .if1 .left) _ _ (c .before .before .before .before .open-else .ensures _ []), omega arith), some-keyed _ _ _ _ [] _ _ [] (c .before .before .before .before .before .before .before .before .before .before .before .before .before .pre .1 .0 .4) (c .before .before .before .before .before .before .before .before .before .before .before .before .before .pre .1 .0 .5) (c .before .before .before .before .before .before .before .before .before .before .before .before .before .pre .1 .0 .3) (c .before .before .before .before .before .before .if1 .left) _ _ (c .before .before .before .before .open-else .ensures _ []) (c .before .before .before .before .before .before .before .before .before .before .before .before .before .pre .1 .1)))
+  branch-else-analyze-stmts-requires c κs =
+      let s = c .before .before .before .before .before .before .before .before .before .before .before .before .before .before in
+      let st = stateOf (s .args .t .at) (s .args .t .sink) _ in
+      let p : (t : List Text) → ElseOpened t (s .args .left) st _ [] (stateOf (s .args .t .at + 1) (s .args .t .sink) _) _ [] = λ t. (record { at = refl; marks = refl; emitted = emitted-none (c .before .before .before .before .before .before .before .before .before .before .before .before .before .before .pre .1 .0 .1 .fits); becomes = c .before .before .before .before .before .enter .ensures }) in
+      (omega (arith, s .pre .1 .0 .4), ((s .pre .1 .0 .0, opened-ready _ [] (p []) (s .pre .1 .0 .1), some-held _ [] 0 _ [] st _ [] (c .before .before .before .before .before .before .before .before .before .before .before .before .before .before .pre .1 .0 .4) (c .before .before .before .before .before .before .before .before .before .before .before .before .before .before .pre .1 .0 .5) (c .before .before .before .before .before .before .before .before .before .before .before .before .before .before .pre .1 .0 .3) (c .before .before .before .before .before .before .before .if1 .left) _ _ (p _), omega arith), some-keyed _ _ _ _ [] st _ [] (c .before .before .before .before .before .before .before .before .before .before .before .before .before .before .pre .1 .0 .4) (c .before .before .before .before .before .before .before .before .before .before .before .before .before .before .pre .1 .0 .5) (c .before .before .before .before .before .before .before .before .before .before .before .before .before .before .pre .1 .0 .3) (c .before .before .before .before .before .before .before .if1 .left) _ _ (p _) (s .pre .1 .1)))
 
   branch-else-returns-2 : branch-else-asks branch-else-lts.Need-returns-2
-  branch-else-returns-2 c = some-walked _ _ _ _ _ _ _ _ (c .before .before .before .before .before .before .before .before .before .before .before .before .before .before .before .before .before .before .before .before .pre .1 .0 .4) (c .before .before .before .before .before .before .before .before .before .before .before .before .before .before .before .before .before .before .before .before .pre .1 .0 .5) (c .before .before .before .before .before .before .before .before .before .before .before .before .before .before .before .before .before .before .before .before .pre .1 .0 .3) (c .before .before .before .before .before .before .before .before .before .before .before .before .before .if1 .left) _ _ (c .before .before .before .before .before .before .before .before .before .before .before .open-else .ensures _ _) _ _ _ (c .before .before .before .before .before .before .analyze-stmts .ensures) _ (c .united2 .ensures .0) (c .united2 .ensures .1) (c .united2 .ensures .2 _ (c .before .before .before .before .before .before .before .before .before .before .before .before .before .before .before .before .before .before .before .before .pre .1 .0 .2) (c .before .before .before .before .before .before .analyze-stmts .ensures .placed)) (c .united2 .ensures .3 _ _)
+  branch-else-returns-2 c = some-walked _ _ _ _ _ _ _ _ (c .before .before .before .before .before .before .before .before .before .before .before .before .before .before .before .before .before .before .before .before .before .before .before .pre .1 .0 .4) (c .before .before .before .before .before .before .before .before .before .before .before .before .before .before .before .before .before .before .before .before .before .before .before .pre .1 .0 .5) (c .before .before .before .before .before .before .before .before .before .before .before .before .before .before .before .before .before .before .before .before .before .before .before .pre .1 .0 .3) (c .before .before .before .before .before .before .before .before .before .before .before .before .before .before .before .before .if1 .left) _ _ (record { at = refl; marks = refl; emitted = emitted-none (c .before .before .before .before .before .before .before .before .before .before .before .before .before .before .before .before .before .before .before .before .before .before .before .pre .1 .0 .1 .fits); becomes = c .before .before .before .before .before .before .before .before .before .before .before .before .before .before .enter .ensures }) _ _ _ (c .before .before .before .before .before .before .before .before .analyze-stmts .ensures) _ refl refl (c .unite2 .ensures .0 _ (c .before .before .before .before .before .before .before .before .before .before .before .before .before .before .before .before .before .before .before .before .before .before .before .pre .1 .0 .2) (c .before .before .before .before .before .before .before .before .analyze-stmts .ensures .placed)) (c .unite2 .ensures .1 _ _)
 
   branch-else-closed : {M : Type 1} → branch-else-lts.Closed branch-else-calls branch-else-at branch-else.Post M
   branch-else-closed =
       branch-else-lts.spec branch-else-calls branch-else-at branch-else.Post
       (λ c. else-in _ _ _ (c .before .before .before .before .before .before .pre .1 .0 .3))  -- shared-slice-read-if1: if tree[k] == 0 {
-      branch-else-add-united
-      (λ c κs. search needs)  -- united-requires: return bodies::united(k + 1, st.sink, entry, thens);
-      branch-else-returns branch-else-open-else-requires
-      (λ c. omega (arith, c .before .before .before .before .before .before .before .before .before .before .before .before .before .pre .1 .0 .4))  -- sub-analyze-stmts: let e = analyze_stmts(tree, index, scratch, out, keys, left  ..
+      (λ c κs. (c .before .before .before .before .before .before .before .before .pre .1 .0 .1 .placed .whole, c .before .before .before .before .before .before .before .before .pre .1 .0 .2 .whole))  -- unite-requires: sheet::unite(entry, &mut then.marks);
+      (λ c. omega (arith, else-in _ _ _ (c .before .before .before .before .before .before .before .before .before .pre .1 .0 .3), c .before .before .before .before .before .before .before .before .before .pre .1 .0 .0 .small))  -- add-then: then.at = k + 1;
+      branch-else-returns
+      (λ c. search needs)  -- sub-enter: tables::enter(scratch, 9 - left);
+      (λ c κs. (c .before .before .before .before .before .before .before .before .pre .1 .0 .1 .room, omega (arith, c .before .before .before .before .before .before .before .before .pre .1 .0 .4)))  -- enter-requires: tables::enter(scratch, 9 - left);
+      (λ c. omega (arith, else-in _ _ _ (c .before .before .before .before .before .before .before .before .before .before .before .before .pre .1 .0 .3), c .before .before .before .before .before .before .before .before .before .before .before .before .pre .1 .0 .0 .small))  -- add-analyze-stmts: at: k + 1,
+      (λ c. omega (arith, c .before .before .before .before .before .before .before .before .before .before .before .before .before .before .pre .1 .0 .4))  -- sub-analyze-stmts: let mut e = analyze_stmts(tree, index, scratch, out, keys, l ..
       branch-else-analyze-stmts-requires
-      (λ c κs. search needs)  -- united-requires-2: bodies::united(e.at, e.sink, thens, marks)
+      (λ c κs. (c .before .before .before .before .before .before .before .before .before .before .before .before .before .before .before .before .before .before .before .before .before .before .pre .1 .0 .2 .whole, c .before .before .before .before .before .before .before .analyze-stmts .ensures .placed .whole))  -- unite-requires-2: sheet::unite(&then.marks, &mut e.marks);
       (λ c. search needs)  -- same-length: fn branch_else(tree: &[u8], index: &[u64], scratch: &mut [u8 ..
       (λ c. search needs)  -- same-length-2
       branch-else-returns-2
 
   abbrev for-loop-calls : for-loop-lts.Claims
-  for-loop-calls = (bodies.open_for.Reads.Asked, bodies.open_for.Reads.Learnt, analyze-stmts-below, analyze-stmts.Post, bodies.closed_loop.Reads.Asked, bodies.closed_loop.Reads.Learnt)
+  for-loop-calls = (bodies.open_for.Reads.Asked, bodies.open_for.Reads.Learnt, analyze-stmts-below, analyze-stmts.Post, sheet.unite.Reads.Asked, sheet.unite.Reads.Learnt)
 
   abbrev for-loop-asks : (for-loop-lts.Claims → In 4 for-loop-lts.ps → Out 4 for-loop-lts.ps for-loop-lts.r → Type 0) → Type 0
   for-loop-asks Need = Need for-loop-calls for-loop-at for-loop.Post
 
   for-loop-open-for-requires : for-loop-asks for-loop-lts.Need-open-for-requires
-  for-loop-open-for-requires c κs = (c .before .before .before .before .before .before .pre .1 .0 .0 .texts, c .before .before .before .before .before .before .pre .1 .0 .0 .small, c .before .before .before .before .before .before .pre .1 .0 .1, c .before .before .before .before .before .before .pre .1 .0 .2, c .before .before .before .before .before .before .pre .1 .0 .3, c .before .before .before .before .before .before .pre .1 .0 .4)
+  for-loop-open-for-requires c κs = (c .before .before .before .before .before .before .before .before .pre .1 .0 .0 .texts, c .before .before .before .before .before .before .before .before .pre .1 .0 .0 .small, c .before .before .before .before .before .before .before .before .pre .1 .0 .1 .room, c .before .before .before .before .before .before .before .before .pre .1 .0 .1 .fits, c .before .before .before .before .before .before .before .before .pre .1 .0 .2, c .before .before .before .before .before .before .before .before .pre .1 .0 .3, c .before .before .before .before .before .before .before .before .pre .1 .0 .4)
 
   for-loop-analyze-stmts-requires : for-loop-asks for-loop-lts.Need-analyze-stmts-requires
-  for-loop-analyze-stmts-requires c κs = (omega (arith, stmt-left _ _ _ _ (c .before .before .before .before .before .before .before .before .before .before .before .before .before .pre .1 .0 .2)), ((c .before .before .before .before .before .before .before .before .before .before .before .before .before .pre .1 .0 .0, opened-ready _ [] (c .before .before .before .before .before .before .open-for .ensures) (c .before .before .before .before .before .before .before .before .before .before .before .before .before .pre .1 .0 .1), for-held _ [] 0 _ _ (c .before .before .before .before .before .before .before .before .before .before .before .before .before .pre .1 .0 .2) (c .before .before .before .before .before .before .before .before .before .before .before .before .before .pre .1 .0 .3) (c .before .before .before .before .before .before .before .before .before .before .before .before .before .pre .1 .0 .4) _ _ _ _ _ (c .before .before .before .before .before .before .open-for .ensures), omega arith), for-keyed _ _ _ _ _ (c .before .before .before .before .before .before .before .before .before .before .before .before .before .pre .1 .0 .2) (c .before .before .before .before .before .before .before .before .before .before .before .before .before .pre .1 .0 .3) (c .before .before .before .before .before .before .before .before .before .before .before .before .before .pre .1 .0 .4) _ _ _ _ _ (c .before .before .before .before .before .before .open-for .ensures) (c .before .before .before .before .before .before .before .before .before .before .before .before .before .pre .1 .1)))
+  for-loop-analyze-stmts-requires c κs = (omega (arith, stmt-left _ _ _ _ (c .before .before .before .before .before .before .before .before .before .before .before .before .before .before .before .before .pre .1 .0 .2)), ((c .before .before .before .before .before .before .before .before .before .before .before .before .before .before .before .before .pre .1 .0 .0, opened-ready _ [] (c .before .before .before .before .before .before .before .open-for .ensures (c .before .before .before .before .before .before .before .before .before .before .before .before .before .before .before .before .args .st .marks)) (c .before .before .before .before .before .before .before .before .before .before .before .before .before .before .before .before .pre .1 .0 .1), for-held _ [] 0 _ _ (c .before .before .before .before .before .before .before .before .before .before .before .before .before .before .before .before .pre .1 .0 .2) (c .before .before .before .before .before .before .before .before .before .before .before .before .before .before .before .before .pre .1 .0 .3) (c .before .before .before .before .before .before .before .before .before .before .before .before .before .before .before .before .pre .1 .0 .4) _ _ _ _ _ (c .before .before .before .before .before .before .before .open-for .ensures (c .before .before .before .before .before .before .before .before .before .before .before .before .before .before .before .before .args .st .marks)), omega arith), for-keyed _ _ _ _ _ (c .before .before .before .before .before .before .before .before .before .before .before .before .before .before .before .before .pre .1 .0 .2) (c .before .before .before .before .before .before .before .before .before .before .before .before .before .before .before .before .pre .1 .0 .3) (c .before .before .before .before .before .before .before .before .before .before .before .before .before .before .before .before .pre .1 .0 .4) _ _ _ _ _ (c .before .before .before .before .before .before .before .open-for .ensures (c .before .before .before .before .before .before .before .before .before .before .before .before .before .before .before .before .args .st .marks)) (c .before .before .before .before .before .before .before .before .before .before .before .before .before .before .before .before .pre .1 .1)))
 
-  for-loop-closed-loop-requires : for-loop-asks for-loop-lts.Need-closed-loop-requires
-  for-loop-closed-loop-requires c κs = omega (arith, for-room _ _ _ _ _ (c .before .before .before .before .before .before .before .before .before .before .before .before .before .before .before .before .before .before .pre .1 .0 .2) (c .before .before .before .before .before .before .before .before .before .before .before .before .before .before .before .before .before .before .pre .1 .0 .3) (c .before .before .before .before .before .before .before .before .before .before .before .before .before .before .before .before .before .before .pre .1 .0 .4) _ _ _ _ _ (c .before .before .before .before .before .before .before .before .before .before .before .open-for .ensures) _ _ _ (c .before .before .before .before .analyze-stmts .ensures), c .before .before .before .before .before .before .before .before .before .before .before .before .before .before .before .before .before .before .pre .1 .0 .0 .small)
+  for-loop-unite-requires : for-loop-asks for-loop-lts.Need-unite-requires
+  for-loop-unite-requires c κs = (c .before .before .before .before .before .before .before .before .before .before .before .before .before .before .before .before .before .before .before .before .before .before .before .pre .1 .0 .1 .placed .whole, c .before .before .before .before .before .before .analyze-stmts .ensures .placed .whole)
 
   for-loop-returns : for-loop-asks for-loop-lts.Need-returns
-  for-loop-returns c = for-walked _ _ _ _ _ (c .before .before .before .before .before .before .before .before .before .before .before .before .before .before .before .before .before .before .before .pre .1 .0 .2) (c .before .before .before .before .before .before .before .before .before .before .before .before .before .before .before .before .before .before .before .pre .1 .0 .3) (c .before .before .before .before .before .before .before .before .before .before .before .before .before .before .before .before .before .before .before .pre .1 .0 .4) _ _ _ _ _ (c .before .before .before .before .before .before .before .before .before .before .before .before .open-for .ensures) _ _ _ (c .before .before .before .before .before .analyze-stmts .ensures) _ (c .closed-loop .ensures .0) (c .closed-loop .ensures .1) (c .closed-loop .ensures .2 _ (c .before .before .before .before .before .before .before .before .before .before .before .before .before .before .before .before .before .before .before .pre .1 .0 .1 .placed) (c .before .before .before .before .before .analyze-stmts .ensures .placed)) (c .closed-loop .ensures .3 _ _)
+  for-loop-returns c = for-walked _ _ _ _ _ (c .before .before .before .before .before .before .before .before .before .before .before .before .before .before .before .before .before .before .before .before .before .before .before .before .pre .1 .0 .2) (c .before .before .before .before .before .before .before .before .before .before .before .before .before .before .before .before .before .before .before .before .before .before .before .before .pre .1 .0 .3) (c .before .before .before .before .before .before .before .before .before .before .before .before .before .before .before .before .before .before .before .before .before .before .before .before .pre .1 .0 .4) _ _ _ _ _ (c .before .before .before .before .before .before .before .before .before .before .before .before .before .before .before .open-for .ensures (c .before .before .before .before .before .before .before .before .before .before .before .before .before .before .before .before .before .before .before .before .before .before .before .before .args .st .marks)) _ _ _ (c .before .before .before .before .before .before .before .analyze-stmts .ensures) _ refl refl (c .unite .ensures .0 _ (c .before .before .before .before .before .before .before .before .before .before .before .before .before .before .before .before .before .before .before .before .before .before .before .before .pre .1 .0 .1 .placed) (c .before .before .before .before .before .before .before .analyze-stmts .ensures .placed)) (c .unite .ensures .1 _ _)
 
   for-loop-closed : {M : Type 1} → for-loop-lts.Closed for-loop-calls for-loop-at for-loop.Post M
   for-loop-closed =
       for-loop-lts.spec for-loop-calls for-loop-at for-loop.Post
       for-loop-open-for-requires
-      (λ c. omega (arith, stmt-left _ _ _ _ (c .before .before .before .before .before .before .before .before .before .before .before .before .before .pre .1 .0 .2)))  -- sub-analyze-stmts: let r = analyze_stmts(tree, index, scratch, out, keys, left  ..
-      for-loop-analyze-stmts-requires for-loop-closed-loop-requires
+      (λ c. omega (arith, stmt-left _ _ _ _ (c .before .before .before .before .before .before .before .before .before .before .before .before .before .before .before .before .pre .1 .0 .2)))  -- sub-analyze-stmts: let mut r = analyze_stmts(tree, index, scratch, out, keys, l ..
+      for-loop-analyze-stmts-requires for-loop-unite-requires
+      (λ c. omega (arith, for-room _ _ _ _ _ (c .before .before .before .before .before .before .before .before .before .before .before .before .before .before .before .before .before .before .before .before .before .before .before .before .pre .1 .0 .2) (c .before .before .before .before .before .before .before .before .before .before .before .before .before .before .before .before .before .before .before .before .before .before .before .before .pre .1 .0 .3) (c .before .before .before .before .before .before .before .before .before .before .before .before .before .before .before .before .before .before .before .before .before .before .before .before .pre .1 .0 .4) _ _ _ _ _ (c .before .before .before .before .before .before .before .before .before .before .before .before .before .before .before .open-for .ensures (c .before .before .before .before .before .before .before .before .before .before .before .before .before .before .before .before .before .before .before .before .before .before .before .before .args .st .marks)) _ _ _ (c .before .before .before .before .before .before .before .analyze-stmts .ensures), c .before .before .before .before .before .before .before .before .before .before .before .before .before .before .before .before .before .before .before .before .before .before .before .before .pre .1 .0 .0 .small))  -- add-r: r.at = r.at + 8;
       (λ c. search needs)  -- same-length: fn for_loop(tree: &[u8], index: &[u64], scratch: &mut [u8],  ..
       (λ c. search needs)  -- same-length-2
       for-loop-returns
 
   abbrev gate-def-calls : gate-def-lts.Claims
-  gate-def-calls = (bodies.open_gate.Reads.Asked, bodies.open_gate.Reads.Learnt, analyze-stmts-below, analyze-stmts.Post, bodies.closed.Reads.Asked, bodies.closed.Reads.Learnt)
+  gate-def-calls = (bodies.open_gate.Reads.Asked, bodies.open_gate.Reads.Learnt, analyze-stmts-below, analyze-stmts.Post)
 
   abbrev gate-def-asks : (gate-def-lts.Claims → In 4 gate-def-lts.ps → Out 4 gate-def-lts.ps gate-def-lts.r → Type 0) → Type 0
   gate-def-asks Need = Need gate-def-calls gate-def-at gate-def.Post
 
   gate-def-open-gate-requires : gate-def-asks gate-def-lts.Need-open-gate-requires
-  gate-def-open-gate-requires c κs = (c .before .before .before .before .before .before .pre .1 .0 .0 .texts, c .before .before .before .before .before .before .pre .1 .0 .0 .small, c .before .before .before .before .before .before .pre .1 .0 .1, c .before .before .before .before .before .before .pre .1 .0 .2, c .before .before .before .before .before .before .pre .1 .0 .3, c .before .before .before .before .before .before .pre .1 .0 .4)
+  gate-def-open-gate-requires c κs = (c .before .before .before .before .before .before .before .before .pre .1 .0 .0 .texts, c .before .before .before .before .before .before .before .before .pre .1 .0 .0 .small, c .before .before .before .before .before .before .before .before .pre .1 .0 .1 .room, c .before .before .before .before .before .before .before .before .pre .1 .0 .1 .fits, c .before .before .before .before .before .before .before .before .pre .1 .0 .2, c .before .before .before .before .before .before .before .before .pre .1 .0 .3, c .before .before .before .before .before .before .before .before .pre .1 .0 .4)
 
   gate-def-analyze-stmts-requires : gate-def-asks gate-def-lts.Need-analyze-stmts-requires
-  gate-def-analyze-stmts-requires c κs = (omega (arith, stmt-left _ _ _ _ (c .before .before .before .before .before .before .before .before .before .before .before .before .before .pre .1 .0 .2)), ((c .before .before .before .before .before .before .before .before .before .before .before .before .before .pre .1 .0 .0, opened-ready _ [] (c .before .before .before .before .before .before .open-gate .ensures) (c .before .before .before .before .before .before .before .before .before .before .before .before .before .pre .1 .0 .1), gate-held _ [] 0 _ _ (c .before .before .before .before .before .before .before .before .before .before .before .before .before .pre .1 .0 .2) (c .before .before .before .before .before .before .before .before .before .before .before .before .before .pre .1 .0 .3) (c .before .before .before .before .before .before .before .before .before .before .before .before .before .pre .1 .0 .4) _ _ _ _ _ (c .before .before .before .before .before .before .open-gate .ensures), omega arith), gate-keyed _ _ _ _ _ (c .before .before .before .before .before .before .before .before .before .before .before .before .before .pre .1 .0 .2) (c .before .before .before .before .before .before .before .before .before .before .before .before .before .pre .1 .0 .3) (c .before .before .before .before .before .before .before .before .before .before .before .before .before .pre .1 .0 .4) _ _ _ _ _ (c .before .before .before .before .before .before .open-gate .ensures) (c .before .before .before .before .before .before .before .before .before .before .before .before .before .pre .1 .1)))
-
-  gate-def-closed-requires : gate-def-asks gate-def-lts.Need-closed-requires
-  gate-def-closed-requires c κs = omega (arith, gate-room _ _ _ _ _ (c .before .before .before .before .before .before .before .before .before .before .before .before .before .before .before .before .before .before .pre .1 .0 .2) (c .before .before .before .before .before .before .before .before .before .before .before .before .before .before .before .before .before .before .pre .1 .0 .3) (c .before .before .before .before .before .before .before .before .before .before .before .before .before .before .before .before .before .before .pre .1 .0 .4) _ _ _ _ _ (c .before .before .before .before .before .before .before .before .before .before .before .open-gate .ensures) _ _ _ (c .before .before .before .before .analyze-stmts .ensures), c .before .before .before .before .before .before .before .before .before .before .before .before .before .before .before .before .before .before .pre .1 .0 .0 .small)
+  gate-def-analyze-stmts-requires c κs = (omega (arith, stmt-left _ _ _ _ (c .before .before .before .before .before .before .before .before .before .before .before .before .before .before .before .before .pre .1 .0 .2)), ((c .before .before .before .before .before .before .before .before .before .before .before .before .before .before .before .before .pre .1 .0 .0, opened-ready _ [] (c .before .before .before .before .before .before .before .open-gate .ensures (c .before .before .before .before .before .before .before .before .before .before .before .before .before .before .before .before .args .st .marks)) (c .before .before .before .before .before .before .before .before .before .before .before .before .before .before .before .before .pre .1 .0 .1), gate-held _ [] 0 _ _ (c .before .before .before .before .before .before .before .before .before .before .before .before .before .before .before .before .pre .1 .0 .2) (c .before .before .before .before .before .before .before .before .before .before .before .before .before .before .before .before .pre .1 .0 .3) (c .before .before .before .before .before .before .before .before .before .before .before .before .before .before .before .before .pre .1 .0 .4) _ _ _ _ _ (c .before .before .before .before .before .before .before .open-gate .ensures (c .before .before .before .before .before .before .before .before .before .before .before .before .before .before .before .before .args .st .marks)), omega arith), gate-keyed _ _ _ _ _ (c .before .before .before .before .before .before .before .before .before .before .before .before .before .before .before .before .pre .1 .0 .2) (c .before .before .before .before .before .before .before .before .before .before .before .before .before .before .before .before .pre .1 .0 .3) (c .before .before .before .before .before .before .before .before .before .before .before .before .before .before .before .before .pre .1 .0 .4) _ _ _ _ _ (c .before .before .before .before .before .before .before .open-gate .ensures (c .before .before .before .before .before .before .before .before .before .before .before .before .before .before .before .before .args .st .marks)) (c .before .before .before .before .before .before .before .before .before .before .before .before .before .before .before .before .pre .1 .1)))
 
   gate-def-returns : gate-def-asks gate-def-lts.Need-returns
-  gate-def-returns c = gate-walked _ _ _ _ _ (c .before .before .before .before .before .before .before .before .before .before .before .before .before .before .before .before .before .before .before .pre .1 .0 .2) (c .before .before .before .before .before .before .before .before .before .before .before .before .before .before .before .before .before .before .before .pre .1 .0 .3) (c .before .before .before .before .before .before .before .before .before .before .before .before .before .before .before .before .before .before .before .pre .1 .0 .4) _ _ _ _ _ (c .before .before .before .before .before .before .before .before .before .before .before .before .open-gate .ensures) _ _ _ (c .before .before .before .before .before .analyze-stmts .ensures) _ (c .closed .ensures .0) (c .closed .ensures .1) (c .closed .ensures .2)
+  gate-def-returns c = gate-walked _ _ _ _ _ (c .before .before .before .before .before .before .before .before .before .before .before .before .before .before .before .before .before .before .before .before .before .before .pre .1 .0 .2) (c .before .before .before .before .before .before .before .before .before .before .before .before .before .before .before .before .before .before .before .before .before .before .pre .1 .0 .3) (c .before .before .before .before .before .before .before .before .before .before .before .before .before .before .before .before .before .before .before .before .before .before .pre .1 .0 .4) _ _ _ _ _ (c .before .before .before .before .before .before .before .before .before .before .before .before .before .open-gate .ensures (c .before .before .before .before .before .before .before .before .before .before .before .before .before .before .before .before .before .before .before .before .before .before .args .st .marks)) _ _ _ (c .before .before .before .before .before .analyze-stmts .ensures) _ refl refl refl
 
   gate-def-closed : {M : Type 1} → gate-def-lts.Closed gate-def-calls gate-def-at gate-def.Post M
   gate-def-closed =
       gate-def-lts.spec gate-def-calls gate-def-at gate-def.Post
       gate-def-open-gate-requires
-      (λ c. omega (arith, stmt-left _ _ _ _ (c .before .before .before .before .before .before .before .before .before .before .before .before .before .pre .1 .0 .2)))  -- sub-analyze-stmts: let r = analyze_stmts(tree, index, scratch, out, keys, left  ..
-      gate-def-analyze-stmts-requires gate-def-closed-requires
+      (λ c. omega (arith, stmt-left _ _ _ _ (c .before .before .before .before .before .before .before .before .before .before .before .before .before .before .before .before .pre .1 .0 .2)))  -- sub-analyze-stmts: let mut r = analyze_stmts(tree, index, scratch, out, keys, l ..
+      gate-def-analyze-stmts-requires
+      (λ c. omega (arith, gate-room _ _ _ _ _ (c .before .before .before .before .before .before .before .before .before .before .before .before .before .before .before .before .before .before .before .before .before .before .pre .1 .0 .2) (c .before .before .before .before .before .before .before .before .before .before .before .before .before .before .before .before .before .before .before .before .before .before .pre .1 .0 .3) (c .before .before .before .before .before .before .before .before .before .before .before .before .before .before .before .before .before .before .before .before .before .before .pre .1 .0 .4) _ _ _ _ _ (c .before .before .before .before .before .before .before .before .before .before .before .before .before .open-gate .ensures (c .before .before .before .before .before .before .before .before .before .before .before .before .before .before .before .before .before .before .before .before .before .before .args .st .marks)) _ _ _ (c .before .before .before .before .before .analyze-stmts .ensures), c .before .before .before .before .before .before .before .before .before .before .before .before .before .before .before .before .before .before .before .before .before .before .pre .1 .0 .0 .small))  -- add-r: r.at = r.at + 8;
       (λ c. search needs)  -- same-length: fn gate_def(tree: &[u8], index: &[u64], scratch: &mut [u8],  ..
       (λ c. search needs)  -- same-length-2
       gate-def-returns
 
   abbrev while-loop-calls : while-loop-lts.Claims
-  while-loop-calls = (bodies.open_while.Reads.Asked, bodies.open_while.Reads.Learnt, analyze-stmts-below, analyze-stmts.Post, bodies.closed_loop.Reads.Asked, bodies.closed_loop.Reads.Learnt)
+  while-loop-calls = (bodies.open_while.Reads.Asked, bodies.open_while.Reads.Learnt, analyze-stmts-below, analyze-stmts.Post, sheet.unite.Reads.Asked, sheet.unite.Reads.Learnt)
 
   abbrev while-loop-asks : (while-loop-lts.Claims → In 4 while-loop-lts.ps → Out 4 while-loop-lts.ps while-loop-lts.r → Type 0) → Type 0
   while-loop-asks Need = Need while-loop-calls while-loop-at while-loop.Post
 
   while-loop-open-while-requires : while-loop-asks while-loop-lts.Need-open-while-requires
-  while-loop-open-while-requires c κs = (c .before .before .before .before .before .before .pre .1 .0 .0 .texts, c .before .before .before .before .before .before .pre .1 .0 .0 .small, c .before .before .before .before .before .before .pre .1 .0 .1, c .before .before .before .before .before .before .pre .1 .0 .2, c .before .before .before .before .before .before .pre .1 .0 .3, c .before .before .before .before .before .before .pre .1 .0 .4)
+  while-loop-open-while-requires c κs = (c .before .before .before .before .before .before .before .before .pre .1 .0 .0 .texts, c .before .before .before .before .before .before .before .before .pre .1 .0 .0 .small, c .before .before .before .before .before .before .before .before .pre .1 .0 .1 .room, c .before .before .before .before .before .before .before .before .pre .1 .0 .1 .fits, c .before .before .before .before .before .before .before .before .pre .1 .0 .2, c .before .before .before .before .before .before .before .before .pre .1 .0 .3, c .before .before .before .before .before .before .before .before .pre .1 .0 .4)
 
   while-loop-analyze-stmts-requires : while-loop-asks while-loop-lts.Need-analyze-stmts-requires
-  while-loop-analyze-stmts-requires c κs = (omega (arith, stmt-left _ _ _ _ (c .before .before .before .before .before .before .before .before .before .before .before .before .before .pre .1 .0 .2)), ((c .before .before .before .before .before .before .before .before .before .before .before .before .before .pre .1 .0 .0, opened-ready _ [] (c .before .before .before .before .before .before .open-while .ensures) (c .before .before .before .before .before .before .before .before .before .before .before .before .before .pre .1 .0 .1), while-held _ [] 0 _ _ (c .before .before .before .before .before .before .before .before .before .before .before .before .before .pre .1 .0 .2) (c .before .before .before .before .before .before .before .before .before .before .before .before .before .pre .1 .0 .3) (c .before .before .before .before .before .before .before .before .before .before .before .before .before .pre .1 .0 .4) _ _ _ _ _ (c .before .before .before .before .before .before .open-while .ensures), omega arith), while-keyed _ _ _ _ _ (c .before .before .before .before .before .before .before .before .before .before .before .before .before .pre .1 .0 .2) (c .before .before .before .before .before .before .before .before .before .before .before .before .before .pre .1 .0 .3) (c .before .before .before .before .before .before .before .before .before .before .before .before .before .pre .1 .0 .4) _ _ _ _ _ (c .before .before .before .before .before .before .open-while .ensures) (c .before .before .before .before .before .before .before .before .before .before .before .before .before .pre .1 .1)))
+  while-loop-analyze-stmts-requires c κs = (omega (arith, stmt-left _ _ _ _ (c .before .before .before .before .before .before .before .before .before .before .before .before .before .before .before .before .pre .1 .0 .2)), ((c .before .before .before .before .before .before .before .before .before .before .before .before .before .before .before .before .pre .1 .0 .0, opened-ready _ [] (c .before .before .before .before .before .before .before .open-while .ensures (c .before .before .before .before .before .before .before .before .before .before .before .before .before .before .before .before .args .st .marks)) (c .before .before .before .before .before .before .before .before .before .before .before .before .before .before .before .before .pre .1 .0 .1), while-held _ [] 0 _ _ (c .before .before .before .before .before .before .before .before .before .before .before .before .before .before .before .before .pre .1 .0 .2) (c .before .before .before .before .before .before .before .before .before .before .before .before .before .before .before .before .pre .1 .0 .3) (c .before .before .before .before .before .before .before .before .before .before .before .before .before .before .before .before .pre .1 .0 .4) _ _ _ _ _ (c .before .before .before .before .before .before .before .open-while .ensures (c .before .before .before .before .before .before .before .before .before .before .before .before .before .before .before .before .args .st .marks)), omega arith), while-keyed _ _ _ _ _ (c .before .before .before .before .before .before .before .before .before .before .before .before .before .before .before .before .pre .1 .0 .2) (c .before .before .before .before .before .before .before .before .before .before .before .before .before .before .before .before .pre .1 .0 .3) (c .before .before .before .before .before .before .before .before .before .before .before .before .before .before .before .before .pre .1 .0 .4) _ _ _ _ _ (c .before .before .before .before .before .before .before .open-while .ensures (c .before .before .before .before .before .before .before .before .before .before .before .before .before .before .before .before .args .st .marks)) (c .before .before .before .before .before .before .before .before .before .before .before .before .before .before .before .before .pre .1 .1)))
 
-  while-loop-closed-loop-requires : while-loop-asks while-loop-lts.Need-closed-loop-requires
-  while-loop-closed-loop-requires c κs = omega (arith, while-room _ _ _ _ _ (c .before .before .before .before .before .before .before .before .before .before .before .before .before .before .before .before .before .before .pre .1 .0 .2) (c .before .before .before .before .before .before .before .before .before .before .before .before .before .before .before .before .before .before .pre .1 .0 .3) (c .before .before .before .before .before .before .before .before .before .before .before .before .before .before .before .before .before .before .pre .1 .0 .4) _ _ _ _ _ (c .before .before .before .before .before .before .before .before .before .before .before .open-while .ensures) _ _ _ (c .before .before .before .before .analyze-stmts .ensures), c .before .before .before .before .before .before .before .before .before .before .before .before .before .before .before .before .before .before .pre .1 .0 .0 .small)
+  while-loop-unite-requires : while-loop-asks while-loop-lts.Need-unite-requires
+  while-loop-unite-requires c κs = (c .before .before .before .before .before .before .before .before .before .before .before .before .before .before .before .before .before .before .before .before .before .before .before .pre .1 .0 .1 .placed .whole, c .before .before .before .before .before .before .analyze-stmts .ensures .placed .whole)
 
   while-loop-returns : while-loop-asks while-loop-lts.Need-returns
-  while-loop-returns c = while-walked _ _ _ _ _ (c .before .before .before .before .before .before .before .before .before .before .before .before .before .before .before .before .before .before .before .pre .1 .0 .2) (c .before .before .before .before .before .before .before .before .before .before .before .before .before .before .before .before .before .before .before .pre .1 .0 .3) (c .before .before .before .before .before .before .before .before .before .before .before .before .before .before .before .before .before .before .before .pre .1 .0 .4) _ _ _ _ _ (c .before .before .before .before .before .before .before .before .before .before .before .before .open-while .ensures) _ _ _ (c .before .before .before .before .before .analyze-stmts .ensures) _ (c .closed-loop .ensures .0) (c .closed-loop .ensures .1) (c .closed-loop .ensures .2 _ (c .before .before .before .before .before .before .before .before .before .before .before .before .before .before .before .before .before .before .before .pre .1 .0 .1 .placed) (c .before .before .before .before .before .analyze-stmts .ensures .placed)) (c .closed-loop .ensures .3 _ _)
+  while-loop-returns c = while-walked _ _ _ _ _ (c .before .before .before .before .before .before .before .before .before .before .before .before .before .before .before .before .before .before .before .before .before .before .before .before .pre .1 .0 .2) (c .before .before .before .before .before .before .before .before .before .before .before .before .before .before .before .before .before .before .before .before .before .before .before .before .pre .1 .0 .3) (c .before .before .before .before .before .before .before .before .before .before .before .before .before .before .before .before .before .before .before .before .before .before .before .before .pre .1 .0 .4) _ _ _ _ _ (c .before .before .before .before .before .before .before .before .before .before .before .before .before .before .before .open-while .ensures (c .before .before .before .before .before .before .before .before .before .before .before .before .before .before .before .before .before .before .before .before .before .before .before .before .args .st .marks)) _ _ _ (c .before .before .before .before .before .before .before .analyze-stmts .ensures) _ refl refl (c .unite .ensures .0 _ (c .before .before .before .before .before .before .before .before .before .before .before .before .before .before .before .before .before .before .before .before .before .before .before .before .pre .1 .0 .1 .placed) (c .before .before .before .before .before .before .before .analyze-stmts .ensures .placed)) (c .unite .ensures .1 _ _)
 
   while-loop-closed : {M : Type 1} → while-loop-lts.Closed while-loop-calls while-loop-at while-loop.Post M
   while-loop-closed =
       while-loop-lts.spec while-loop-calls while-loop-at while-loop.Post
       while-loop-open-while-requires
-      (λ c. omega (arith, stmt-left _ _ _ _ (c .before .before .before .before .before .before .before .before .before .before .before .before .before .pre .1 .0 .2)))  -- sub-analyze-stmts: let r = analyze_stmts(tree, index, scratch, out, keys, left  ..
-      while-loop-analyze-stmts-requires while-loop-closed-loop-requires
-      (λ c. search needs)  -- same-length: fn while_loop(tree: &[u8], index: &[u64], scratch: &mut [u8] ..
+      (λ c. omega (arith, stmt-left _ _ _ _ (c .before .before .before .before .before .before .before .before .before .before .before .before .before .before .before .before .pre .1 .0 .2)))  -- sub-analyze-stmts: let mut r = analyze_stmts(tree, index, scratch, out, keys, l ..
+      while-loop-analyze-stmts-requires while-loop-unite-requires
+      (λ c. omega (arith, while-room _ _ _ _ _ (c .before .before .before .before .before .before .before .before .before .before .before .before .before .before .before .before .before .before .before .before .before .before .before .before .pre .1 .0 .2) (c .before .before .before .before .before .before .before .before .before .before .before .before .before .before .before .before .before .before .before .before .before .before .before .before .pre .1 .0 .3) (c .before .before .before .before .before .before .before .before .before .before .before .before .before .before .before .before .before .before .before .before .before .before .before .before .pre .1 .0 .4) _ _ _ _ _ (c .before .before .before .before .before .before .before .before .before .before .before .before .before .before .before .open-while .ensures (c .before .before .before .before .before .before .before .before .before .before .before .before .before .before .before .before .before .before .before .before .before .before .before .before .args .st .marks)) _ _ _ (c .before .before .before .before .before .before .before .analyze-stmts .ensures), c .before .before .before .before .before .before .before .before .before .before .before .before .before .before .before .before .before .before .before .before .before .before .before .before .pre .1 .0 .0 .small))  -- add-r: r.at = r.at + 8;
+      (λ c. search needs)  -- same-length: fn while_loop(tree: &[u8], index: &[u64], scratch: &mut [u8],  ..
       (λ c. search needs)  -- same-length-2
       while-loop-returns
 
