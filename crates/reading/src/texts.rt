@@ -13,7 +13,7 @@ ghost use mathlib.Core.Path.{_≡_};
 ghost use Prim.Native.Nat.{_≤_, _-_};
 ghost use mathlib.Core.Bool.{_||_};
 ghost use lib.Dec.{eqb};
-ghost use mathlib.Core.List.{map};
+ghost use mathlib.Core.List.{[], map};
 ghost use lib.ListN.{length, take, drop};
 ghost use Rattle.tree.specs.Texts.{allowed, same, among, text, isName, isFloat, isPath};
 ghost use Rattle.tree.specs.Exprs.{textNumber};
@@ -102,13 +102,13 @@ fn has_sum(sums: &[u64], sum: u64) -> bool
 }
 
 // Whether a text equals one of the first `n`, whose checksums are lent.
-fn is_repeated(s: &[u8], x: &[u8], n: usize, sums: &[u64]) -> bool
+fn is_repeated(s: &[u8], x: &[u8], sum: u64, n: usize, sums: &[u64]) -> bool
+    requires { ⌜ sum ≡ checksum (now x) ⌝ }
     requires { ⌜ n ≤ 256 ⌝ }
     requires { ⌜ pastTexts (now s) n 2 ≤ length (now s) ⌝ }
     requires { ⌜ now sums ≡ map checksum (textsFrom (now s) n 2) ⌝ }
     ensures { λ r. ⌜ r ≡ among (now (x .entry)) (textsFrom (now (s .entry)) n 2) ⌝ }
 {
-    let sum = spelling::checksum(x);
     if !has_sum(sums, sum) {
         return false;
     }
@@ -124,12 +124,9 @@ fn is_repeated(s: &[u8], x: &[u8], n: usize, sums: &[u64]) -> bool
     false
 }
 
-// A text behind `n` others.
-fn read_text(s: &[u8], at: usize, n: usize, sums: &[u64]) -> Read
-    requires { ⌜ n ≤ 256 ⌝ }
-    requires { ⌜ pastTexts (now s) n 2 ≡ at ⌝ }
-    requires { ⌜ now sums ≡ map checksum (textsFrom (now s) n 2) ⌝ }
-    ensures { λ r. ⌜ r ≡ forget (text (textsFrom (now (s .entry)) n 2) (now (s .entry)) at) ⌝ }
+// A text. Whether an earlier one is equal is not asked.
+fn read_text(s: &[u8], at: usize) -> Read
+    ensures { λ r. ⌜ r ≡ forget (text [] (now (s .entry)) at) ⌝ }
 {
     let a = read_byte(s, at);
     let ReadByte::At(length, start) = a else {
@@ -146,14 +143,7 @@ fn read_text(s: &[u8], at: usize, n: usize, sums: &[u64]) -> Read
         return Read::Refused(3, s.len());
     }
     let end = start + width;
-    let b = read_allowed(s, start, end);
-    let Read::At(k) = b else {
-        return b;
-    };
-    if is_repeated(s, &s[start..end], n, sums) {
-        return Read::Refused(4, at);
-    }
-    Read::At(k)
+    read_allowed(s, start, end)
 }
 
 // How many texts there are.
@@ -180,13 +170,17 @@ pub fn read_texts(s: &[u8], first: usize, n: usize, kinds: &mut [u8; TEXTS_LIMIT
     let mut k = first;
     let mut i = 0;
     while i < n {
-        let a = read_text(s, k, i, &sums[..i]);
+        let a = read_text(s, k);
         let Read::At(next) = a else {
             return a;
         };
         let x = &s[k + 1..next];
+        let sum = spelling::checksum(x);
+        if is_repeated(s, x, sum, i, &sums[..i]) {
+            return Read::Refused(4, k);
+        }
         kinds[i] = spelling::kind(x);
-        sums[i] = spelling::checksum(x);
+        sums[i] = sum;
         k = next;
         i += 1;
     }
