@@ -14,7 +14,7 @@ use Rattle.ast.specs.Tree.{Text}
 use Rattle.tree.specs.Limits.{textsLimit, textLimit}
 use Rattle.tree.specs.Ans.{ok, refused, bind, _>>=_, _>>_, done, here, refuse, check, given}
 use Rattle.tree.specs.Read.{number}
-use Rattle.tree.specs.Texts.{allowed, among, text, moreTexts, texts, between}
+use Rattle.tree.specs.Texts.{allowed, among, text, moreTexts, texts}
 use Rattle.tree.proofs.Steps.{byte-in, byte-end, number-in, number-end}
 use Rattle.reading.specs.Answers.{forget, gaveNumber}
 use Rattle.reading.specs.Section.{textAt, past, textsFrom, pastTexts, textCount, kindOf, kindsOf, checksum, Gathered}
@@ -25,7 +25,7 @@ use Rattle.reading.specs.declared.answers.ReadNumber.{ReadNumber}
 use Rattle.reading.proofs.Taken.{number-ok, number-not}
 use Rattle.reading.proofs.Leaves.{le-or-lt}
 use Rattle.reading.proofs.Values.{not-both, never-ok, bind-refused, bind-into}
-use Rattle.reading.proofs.Section.{text-part, empty-is, long-is, cut-is, whole-is, text-after}
+use Rattle.reading.proofs.Section.{Judged, bytes-judged, text-part, empty-is, long-is, cut-is, whole-is, text-after}
 
 -- one text more from a place on
 texts-more : (s : List ℕ) (i at : ℕ) → textsFrom s (suc i) at ≡ textsFrom s i at ++ (textAt s (pastTexts s i at) ∷ [])
@@ -37,16 +37,6 @@ past-more : (s : List ℕ) (i at : ℕ) → pastTexts s (suc i) at ≡ past s (p
 unfolding pastTexts
 past-more s zero at = refl
 past-more s (suc i) at = past-more s i (past s at)
-
--- allowed bytes leave the place as it is
-allowed-told : (cs : List ℕ) (place : ℕ) (s : List ℕ) (at : ℕ) → (allowed cs place s at ≡ ok tt at) ⊎ ((p : ℕ) × (allowed cs place s at ≡ refused 4 p))
-unfolding allowed check done refuse _>>_ bind
-allowed-told [] place s at = inl refl
-allowed-told (c ∷ cs) place s at = go (between 33 126 c) refl (allowed-told cs (place + 1) s at)
-  where
-    go : (b : Bool) → between 33 126 c ≡ b → (allowed cs (place + 1) s at ≡ ok tt at) ⊎ ((p : ℕ) × (allowed cs (place + 1) s at ≡ refused 4 p)) → (allowed (c ∷ cs) place s at ≡ ok tt at) ⊎ ((p : ℕ) × (allowed (c ∷ cs) place s at ≡ refused 4 p))
-    go true e h = rw e h
-    go false e h = inr (place, rw e)
 
 -- a text that was read
 module _ (s : List ℕ) (at : ℕ) (r : Read) (next : ℕ) (read : r ≡ forget (text [] s at)) (g : r ≡ At next) where
@@ -61,14 +51,14 @@ module _ (s : List ℕ) (at : ℕ) (r : Read) (next : ℕ) (read : r ≡ forget 
   text-told (inr h) (inl n) m w = absurd (not-refused 4 at (empty-is s at _ _ (byte-in s at h) (omega arith)))
   text-told (inr h) (inr n) (inr m) w = absurd (not-refused 4 at (long-is s at _ _ (byte-in s at h) m))
   text-told (inr h) (inr n) (inl m) (inr w) = absurd (not-refused 3 (length s) (cut-is s at _ _ (byte-in s at h) (λ z. omega arith) m w))
-  text-told (inr h) (inr n) (inl m) (inl w) = (go (allowed-told (textAt s at) (at + 1) s (past s at)), w)
+  text-told (inr h) (inr n) (inl m) (inl w) = (go (bytes-judged (textAt s at) (at + 1) s (past s at)), w)
     where
       whole : text [] s at ≡ bind (allowed (textAt s at) (at + 1) s (past s at)) (λ u next. ok (textAt s at) next)
       whole = whole-is s at _ _ (byte-in s at h) (λ z. omega arith) m w
 
-      go : (allowed (textAt s at) (at + 1) s (past s at) ≡ ok tt (past s at)) ⊎ ((p : ℕ) × (allowed (textAt s at) (at + 1) s (past s at) ≡ refused 4 p)) → text [] s at ≡ ok (textAt s at) (past s at)
-      go (inl a) = whole ∙ rw a refl
-      go (inr a) = absurd (not-refused 4 (a .0) (whole ∙ rw (a .1) refl))
+      go : Judged (textAt s at) (at + 1) s (past s at) → text [] s at ≡ ok (textAt s at) (past s at)
+      go (inl a) = whole ∙ rw (a .1) refl
+      go (inr a) = absurd (not-refused 4 (a .1 .0) (whole ∙ rw (a .1 .1) refl))
 
   told : (text [] s at ≡ ok (textAt s at) (past s at)) × (past s at ≤ length s)
   told = text-told (le-or-lt _ _) (le-or-lt _ _) (le-or-lt _ _) (le-or-lt _ _)
@@ -180,13 +170,13 @@ module _ (s kinds sums : List ℕ) (n i k : ℕ) (going : Going s kinds sums n i
       part-is = text-part s k next (text-next s k b next e g)
 
       module _ (r : Bool) (known : r ≡ among (take (next - (k + 1)) (drop (k + 1) s)) (textsFrom s i 2)) where
-        judged : text (textsFrom s i 2) s k ≡ _>>_ (check (not r) 4 k) (done (textAt s k)) s next
+        text-is : text (textsFrom s i 2) s k ≡ _>>_ (check (not r) 4 k) (done (textAt s k)) s next
         unfolding bind
-        judged = text-after (textsFrom s i 2) s k ∙ rw (text-read s k b next e g, rw part-is at known) refl
+        text-is = text-after (textsFrom s i 2) s k ∙ rw (text-read s k b next e g, rw part-is at known) refl
 
         pub going-again : r ≡ true → Gathered s kinds n (Refused 4 k)
         unfolding check refuse _>>_ bind forget
-        going-again t = gathered-none s kinds n (Refused 4 k) 4 k refl (going .long) (rw (remain-more h, judged, t))
+        going-again t = gathered-none s kinds n (Refused 4 k) 4 k refl (going .long) (rw (remain-more h, text-is, t))
 
         pub going-more : r ≡ false → (v w : ℕ) → v ≡ kindOf (take (next - (k + 1)) (drop (k + 1) s)) → w ≡ checksum (take (next - (k + 1)) (drop (k + 1) s)) → Going s (set kinds i v) (set sums i w) n (i + 1) next
         unfolding check done _>>_ bind
@@ -197,7 +187,7 @@ module _ (s kinds sums : List ℕ) (n i k : ℕ) (going : Going s kinds sums n i
               done-few = omega arith;
               few = going .few;
               place = rw add-one (past-more s i 2 ∙ rw (going .place) (sym (text-next s k b next e g)));
-              remain = remain-more h ∙ rw (judged, t, add-one, texts-more s i 2, going .place) refl;
+              remain = remain-more h ∙ rw (text-is, t, add-one, texts-more s i 2, going .place) refl;
               kept = rw (add-one, take-suc-set kinds i v l, texts-more s i 2, map-append, going .kept, going .place, f, part-is) refl;
               long = length-set kinds i v ∙ going .long;
               summed = rw (add-one, take-suc-set sums i w m, texts-more s i 2, map-append, going .summed, going .place, u, part-is) refl;

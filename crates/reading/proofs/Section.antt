@@ -1,8 +1,9 @@
 -- The text section: a law for each way out of the code. Assumes nothing.
 use Prim.Native.Nat.{ℕ, _<_, _≤_, _+_, _-_}
 use mathlib.Core.Path.{_≡_, refl, sym, _∙_}
-use mathlib.Core.List.{List, []}
-use mathlib.Core.Bool.{not, and-false}
+use mathlib.Core.List.{List, [], _∷_}
+use mathlib.Core.Bool.{Bool, true, false, not, and-false, false≢true}
+use mathlib.Core.Logic.{_⊎_, inl, inr}
 use native.Mathlib.Omega.{arith}
 use lib.ListN.{length, getD, take, drop}
 use borrow.Author.Tests.{le-leb, lt-leb}
@@ -10,35 +11,79 @@ use Rattle.ast.specs.Tree.{Text}
 use Rattle.tree.specs.Limits.{textLimit}
 use Rattle.tree.specs.Ans.{Ans, ok, refused, bind, _>>=_, _>>_, done, here, refuse, check}
 use Rattle.tree.specs.Read.{byte, bytes, within}
-use Rattle.tree.specs.Texts.{allowed, among, text, between}
+use Rattle.tree.specs.Texts.{allowed, among, text, between, every}
 use Rattle.reading.specs.Answers.{forget, gaveByte, byteAnswer}
 use Rattle.reading.specs.Section.{textAt, past}
 use Rattle.reading.specs.declared.answers.Read.{Read}
 use Rattle.reading.specs.declared.answers.Read.the-variants.{At, Refused}
 use Rattle.reading.specs.declared.answers.ReadByte.{ReadByte}
 use Rattle.reading.proofs.Taken.{byte-ok}
-use Rattle.reading.proofs.Leaves.{part-cons, part-none}
+use Rattle.reading.proofs.Leaves.{le-or-lt, part-cons, part-none}
 use Rattle.reading.proofs.Values.{bind-into, byte-ends-it}
 
--- allowed bytes: what remains from `k` on decides
-module _ (s : List ℕ) (k e : ℕ) (x : Read) (inv : x ≡ forget (allowed (take (e - k) (drop k s)) k s e)) where
-  pub allowed-low : k < e → e ≤ length s → getD s k 0 < 33 → Refused 4 k ≡ x
+-- an allowed byte
+module _ (b : ℕ) where
+  pub allowed-low : b < 33 → false ≡ between 33 126 b
+  allowed-low h = rw (lt-leb 33 b h)
+
+  pub allowed-high : 126 < b → false ≡ between 33 126 b
+  allowed-high h = rw (lt-leb b 126 h, and-false)
+
+  pub allowed-is : 33 ≤ b → b ≤ 126 → true ≡ between 33 126 b
+  allowed-is g h = rw (le-leb 33 b g, le-leb b 126 h)
+
+pub ruleset allowed-byte = (allowed-low, allowed-high, allowed-is)
+
+-- bytes that are all allowed leave the place as it is, others are refused
+abbrev pub Judged : List ℕ → ℕ → List ℕ → ℕ → Type 0
+Judged cs place s at = ((every (between 33 126) cs ≡ true) × (allowed cs place s at ≡ ok tt at)) ⊎ ((every (between 33 126) cs ≡ false) × ((p : ℕ) × (allowed cs place s at ≡ refused 4 p)))
+
+pub bytes-judged : (cs : List ℕ) (place : ℕ) (s : List ℕ) (at : ℕ) → Judged cs place s at
+unfolding every allowed check done refuse _>>_ bind
+bytes-judged [] place s at = inl (refl, refl)
+bytes-judged (c ∷ cs) place s at = go (between 33 126 c) refl (bytes-judged cs (place + 1) s at)
+  where
+    go : (b : Bool) → between 33 126 c ≡ b → Judged cs (place + 1) s at → Judged (c ∷ cs) place s at
+    go true e h = rw e h
+    go false e h = inr (rw e, (place, rw e))
+
+pub allowed-all : (s : List ℕ) (at end : ℕ) (r : Bool) → r ≡ every (between 33 126) (take (end - at) (drop at s)) → r ≡ true → At end ≡ forget (allowed (take (end - at) (drop at s)) at s end)
+unfolding forget
+allowed-all s at end r e t = go (bytes-judged (take (end - at) (drop at s)) at s end)
+  where
+    go : Judged (take (end - at) (drop at s)) at s end → At end ≡ forget (allowed (take (end - at) (drop at s)) at s end)
+    go (inl h) = rw (h .1)
+    go (inr h) = absurd (false≢true (sym (h .0) ∙ sym e ∙ t))
+
+-- while the first byte that is not allowed is looked for: it is at `k` or behind
+pub record Seeking (s : List ℕ) (at end k : ℕ) : Type 0 where
+  pub there : k < end
+  pub bad : every (between 33 126) (take (end - k) (drop k s)) ≡ false
+  pub remain : forget (allowed (take (end - at) (drop at s)) at s end) ≡ forget (allowed (take (end - k) (drop k s)) k s end)
+
+bad-there : (s : List ℕ) (k end : ℕ) → every (between 33 126) (take (end - k) (drop k s)) ≡ false → k < end
+unfolding every
+bad-there s k end bad = go (le-or-lt end k)
+  where
+    go : (end ≤ k) ⊎ (k < end) → k < end
+    go (inl h) = absurd (false≢true (sym bad ∙ rw (part-none s k end h) refl))
+    go (inr h) = h
+
+pub seeking-start : (s : List ℕ) (at end : ℕ) (r : Bool) → r ≡ every (between 33 126) (take (end - at) (drop at s)) → r ≡ false → Seeking s at end at
+seeking-start s at end r e f = record { there = bad-there s at end (sym e ∙ f); bad = sym e ∙ f; remain = refl }
+
+module _ (s : List ℕ) (at end k : ℕ) (seeking : Seeking s at end k) (inside : end ≤ length s) (r : Bool) (e : r ≡ between 33 126 (getD s k 0)) where
+  pub seeking-more : r ≡ true → Seeking s at end (k + 1)
+  unfolding every allowed check done _>>_ bind
+  seeking-more t =
+      let bad : every (between 33 126) (take (end - (k + 1)) (drop (k + 1) s)) ≡ false = rw (part-cons s k end (seeking .there) inside, sym e, t) at (seeking .bad) in
+      record { there = bad-there s (k + 1) end bad; bad = bad; remain = seeking .remain ∙ rw (part-cons s k end (seeking .there) inside, sym e, t) refl }
+
+  pub seeking-here : r ≡ false → Refused 4 k ≡ forget (allowed (take (end - at) (drop at s)) at s end)
   unfolding allowed check refuse _>>_ bind forget
-  allowed-low h g c = sym (inv ∙ rw (part-cons s k e h g, lt-leb 33 (getD s k 0) c) refl)
+  seeking-here t = sym (seeking .remain ∙ rw (part-cons s k end (seeking .there) inside, sym e, t) refl)
 
-  pub allowed-high : k < e → e ≤ length s → 33 ≤ getD s k 0 → 126 < getD s k 0 → Refused 4 k ≡ x
-  unfolding allowed check refuse _>>_ bind forget
-  allowed-high h g b c = sym (inv ∙ rw (part-cons s k e h g, lt-leb (getD s k 0) 126 c, and-false) refl)
-
-  pub allowed-more : k < e → e ≤ length s → 33 ≤ getD s k 0 → getD s k 0 ≤ 126 → x ≡ forget (allowed (take (e - (k + 1)) (drop (k + 1) s)) (k + 1) s e)
-  unfolding allowed check done _>>_ bind
-  allowed-more h g b c = inv ∙ rw (part-cons s k e h g, le-leb 33 (getD s k 0) b, le-leb (getD s k 0) 126 c) refl
-
-  pub allowed-end : e ≤ k → At e ≡ x
-  unfolding allowed done forget
-  allowed-end h = sym (inv ∙ rw (part-none s k e h) refl)
-
-pub ruleset allowing-bytes = (allowed-low, allowed-high, allowed-more, allowed-end)
+pub ruleset seeking-laws = (allowed-all, seeking-start, seeking-more, seeking-here)
 
 pub text-part : (s : List ℕ) (at end : ℕ) → end ≡ past s at → take (end - (at + 1)) (drop (at + 1) s) ≡ textAt s at
 text-part s at end e = let n : end - (at + 1) ≡ getD s at 0 = omega arith in rw n

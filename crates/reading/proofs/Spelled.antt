@@ -2,7 +2,7 @@
 use Prim.Native.Nat.{ℕ, suc, _<_, _≤_, _+_, _-_, _*_, _^_}
 use mathlib.Core.Path.{_≡_, refl, sym, ap, _∙_}
 use mathlib.Core.List.{List, [], _∷_}
-use mathlib.Core.Bool.{Bool, true, false, _&&_, _||_, or-false, and-false, and-true}
+use mathlib.Core.Bool.{Bool, true, false, _&&_, _||_, or-false, and-false, and-true, and-comm, and-assoc}
 use native.Mathlib.Omega.{arith}
 use native.Mathlib.Nat.{mod-lt}
 use native.Mathlib.Numerals.{add-one}
@@ -78,18 +78,14 @@ module _ (c : ℕ) (l : Bool) where
 pub ruleset allowing = (allows-letter, allows-digit, allows-other)
 
 -- every byte: what remains from `i` on decides
-module _ (p : ℕ → Bool) (x : List ℕ) (i : ℕ) (inv : every p x ≡ every p (drop i x)) where
-  pub every-stop : i < length x → (r : Bool) → r ≡ p (getD x i 0) → r ≡ false → false ≡ every p x
+module _ (p : ℕ → Bool) (x : List ℕ) (good : Bool) (i : ℕ) (inv : every p x ≡ (good && every p (drop i x))) where
+  pub every-more : i < length x → (q : Bool) → q ≡ p (getD x i 0) → (r : Bool) → r ≡ (q && good) → every p x ≡ (r && every p (drop (i + 1) x))
   unfolding every
-  every-stop h r e g = sym (inv ∙ rw (drop-cons x i 0 h, sym e, g) refl)
+  every-more h q e r f = inv ∙ rw (drop-cons x i 0 h, add-one, f, e) (rw (and-comm (p (getD x i 0)) good, and-assoc) refl)
 
-  pub every-more : i < length x → (r : Bool) → r ≡ p (getD x i 0) → r ≡ true → every p x ≡ every p (drop (i + 1) x)
+  pub every-end : length x ≤ i → good ≡ every p x
   unfolding every
-  every-more h r e g = inv ∙ rw (drop-cons x i 0 h, sym e, g, add-one) refl
-
-  pub every-end : length x ≤ i → true ≡ every p x
-  unfolding every
-  every-end h = sym (inv ∙ rw (drop-of-length-le x h) refl)
+  every-end h = sym (inv ∙ rw (drop-of-length-le x h) (and-true good))
 
 -- the same of a fraction
 module _ (x : List ℕ) (i : ℕ) (inv : fraction x ≡ fraction (drop i x)) where
@@ -109,7 +105,7 @@ module _ (x : List ℕ) (i : ℕ) (inv : fraction x ≡ fraction (drop i x)) whe
   unfolding fraction
   fraction-end h = sym (inv ∙ rw (drop-of-length-le x h) refl)
 
-pub ruleset scanning = (every-stop, every-more, every-end, fraction-more, fraction-point, fraction-stop, fraction-end)
+pub ruleset scanning = (every-more, every-end, fraction-more, fraction-point, fraction-stop, fraction-end)
 
 -- the spelling of a whole text, by its first byte
 module _ (x : List ℕ) where

@@ -38,19 +38,26 @@ fn is_digit(c: u8) -> bool
     }
 }
 
-// Digits alone; with `letters`, letters and underscores too.
+pub fn both(a: bool, b: bool) -> bool
+    ensures { λ r. ⌜ r ≡ (a && b) ⌝ }
+{
+    if a {
+        return b;
+    }
+    false
+}
+
+// Digits alone; with `letters`, letters and underscores too. Every byte is looked at, so that many are at once.
 fn all_of(x: &[u8], letters: bool) -> bool
     ensures { λ r. ⌜ r ≡ every (λ c. (letters && letter c) || digit c) (now (x .entry)) ⌝ }
 {
+    let mut good = true;
     let mut i = 0;
     while i < x.len() {
-        if allows(letters, x[i]) {
-            i += 1;
-        } else {
-            return false;
-        }
+        good = both(allows(letters, x[i]), good);
+        i += 1;
     }
-    true
+    good
 }
 
 fn allows(letters: bool, c: u8) -> bool

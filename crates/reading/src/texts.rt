@@ -15,7 +15,7 @@ ghost use mathlib.Core.Bool.{_||_};
 ghost use lib.Dec.{eqb};
 ghost use mathlib.Core.List.{[], map};
 ghost use lib.ListN.{length, take, drop};
-ghost use Rattle.tree.specs.Texts.{allowed, same, among, text, isName, isFloat, isPath};
+ghost use Rattle.tree.specs.Texts.{between, every, allowed, same, among, text, isName, isFloat, isPath};
 ghost use Rattle.tree.specs.Exprs.{textNumber};
 ghost use Rattle.reading.specs.Answers.{forget, gaveNumber, gaveText};
 ghost use Rattle.reading.specs.Section.{textAt, past, textsFrom, pastTexts, textCount, ofKind, kindsOf, checksum, hasSum, Gathered};
@@ -31,23 +31,44 @@ const FIRST_BYTE: u8 = 33;
 
 const LAST_BYTE: u8 = 126;
 
-// The bytes of a text, from `at` to `end`.
+fn is_allowed(b: u8) -> bool
+    ensures { λ r. ⌜ r ≡ between 33 126 b ⌝ }
+{
+    if b < FIRST_BYTE {
+        return false;
+    }
+    if LAST_BYTE < b {
+        return false;
+    }
+    true
+}
+
+// Every byte is looked at, so that many are at once.
+fn all_allowed(x: &[u8]) -> bool
+    ensures { λ r. ⌜ r ≡ every (between 33 126) (now (x .entry)) ⌝ }
+{
+    let mut good = true;
+    let mut i = 0;
+    while i < x.len() {
+        good = spelling::both(is_allowed(x[i]), good);
+        i += 1;
+    }
+    good
+}
+
+// The bytes of a text, from `at` to `end`: the first that is not allowed is refused.
 fn read_allowed(s: &[u8], at: usize, end: usize) -> Read
     requires { ⌜ (at ≤ end) × (end ≤ length (now s)) ⌝ }
     ensures { λ r. ⌜ r ≡ forget (allowed (take (end - at) (drop at (now (s .entry)))) at (now (s .entry)) end) ⌝ }
 {
+    if all_allowed(&s[at..end]) {
+        return Read::At(end);
+    }
     let mut k = at;
-    while k < end {
-        let b = s[k];
-        if b < FIRST_BYTE {
-            return Read::Refused(4, k);
-        }
-        if LAST_BYTE < b {
-            return Read::Refused(4, k);
-        }
+    while is_allowed(s[k]) {
         k += 1;
     }
-    Read::At(end)
+    Read::Refused(4, k)
 }
 
 // The place past the text whose length byte is at `at`.
