@@ -210,7 +210,7 @@ module _ (x : List ℕ) (h i : ℕ) (summing : Summing x h i) where
   pub summing-four : i + 4 ≤ length x → (w : ℕ) → w ≡ fourAt x i → (r : ℕ) → r ≡ mix h w → Summing x r (i + 4)
   unfolding sumFrom
   summing-four l w e r f = record {
-    low = rw f (mod-lt (h * 251 + w) (omega arith));
+    low = rw f (mod-lt (h * 157 + w) (omega arith));
     within = l;
     remain = summing .remain ∙ rw (next i (i + 1) (omega arith) refl, next (i + 1) (i + 2) (omega arith) (omega arith), next (i + 2) (i + 3) (omega arith) (omega arith), next (i + 3) (i + 4) (omega arith) (omega arith), f, e) refl;
   }
@@ -220,7 +220,7 @@ module _ (x : List ℕ) (h i : ℕ) (summing : Summing x h i) where
 
   pub summing-one : length x < i + 4 → i < length x → (b : ℕ) → b ≡ getD x i 0 → (r : ℕ) → r ≡ mix h b → Summing x r (i + 1)
   summing-one s l b e r f = record {
-    low = rw f (mod-lt (h * 251 + b) (omega arith));
+    low = rw f (mod-lt (h * 157 + b) (omega arith));
     within = omega arith;
     remain = summing .remain ∙ rw (drop-cons x i 0 l, f, e, add-one) (sum-one h (getD x i 0) (drop (suc i) x) (omega (arith, length-drop (suc i) x)));
   }

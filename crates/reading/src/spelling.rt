@@ -140,7 +140,7 @@ fn mixed(h: u64, w: u64) -> u64
     requires { ⌜ (h < 2 ^ 56) × (w < 2 ^ 32) ⌝ }
     ensures { λ r. ⌜ r ≡ mix h w ⌝ }
 {
-    (h * 251 + w) % SUM_LIMIT
+    (h * 157 + w) % SUM_LIMIT
 }
 
 // Four bytes as one number.
