@@ -12,9 +12,9 @@ use lib.Dec.{leb}
 use borrow.Author.Tests.{le-leb, lt-leb}
 use Rattle.ast.specs.Tree.{Text}
 use Rattle.tree.specs.Limits.{textsLimit, textLimit}
-use Rattle.tree.specs.Ans.{Ans, ok, refused, bind, _>>=_, _>>_, done, here, refuse, check, given}
+use Rattle.tree.specs.Ans.{ok, refused, bind, _>>=_, _>>_, done, here, refuse, check, given}
 use Rattle.tree.specs.Read.{number}
-use Rattle.tree.specs.Texts.{allowed, among, text, moreTexts, texts, between}
+use Rattle.tree.specs.Texts.{allowed, among, text, moreTexts, texts}
 use Rattle.tree.proofs.Steps.{byte-in, byte-end, number-in, number-end}
 use Rattle.reading.specs.Answers.{forget, gaveNumber}
 use Rattle.reading.specs.Section.{textAt, past, textsFrom, pastTexts, textCount, kindOf, kindsOf, checksum, Gathered}
@@ -24,8 +24,8 @@ use Rattle.reading.specs.declared.answers.Read.the-variants.{At, Refused
 use Rattle.reading.specs.declared.answers.ReadNumber.{ReadNumber}
 use Rattle.reading.proofs.Taken.{number-ok, number-not}
 use Rattle.reading.proofs.Leaves.{le-or-lt}
-use Rattle.reading.proofs.Values.{not-both, never-ok, bind-refused}
-use Rattle.reading.proofs.Section.{text-part, empty-is, long-is, cut-is, whole-is}
+use Rattle.reading.proofs.Values.{not-both, never-ok, bind-refused, bind-into}
+use Rattle.reading.proofs.Section.{Judged, bytes-judged, text-part, empty-is, long-is, cut-is, whole-is, text-after}
 
 -- one text more from a place on
 texts-more : (s : List ℕ) (i at : ℕ) → textsFrom s (suc i) at ≡ textsFrom s i at ++ (textAt s (pastTexts s i at) ∷ [])
@@ -38,47 +38,36 @@ unfolding pastTexts
 past-more s zero at = refl
 past-more s (suc i) at = past-more s i (past s at)
 
--- allowed bytes leave the place as it is
-allowed-told : (cs : List ℕ) (place : ℕ) (s : List ℕ) (at : ℕ) → (allowed cs place s at ≡ ok tt at) ⊎ ((p : ℕ) × (allowed cs place s at ≡ refused 4 p))
-unfolding allowed check done refuse _>>_ bind
-allowed-told [] place s at = inl refl
-allowed-told (c ∷ cs) place s at = go (between 33 126 c) refl (allowed-told cs (place + 1) s at)
-  where
-    go : (b : Bool) → between 33 126 c ≡ b → (allowed cs (place + 1) s at ≡ ok tt at) ⊎ ((p : ℕ) × (allowed cs (place + 1) s at ≡ refused 4 p)) → (allowed (c ∷ cs) place s at ≡ ok tt at) ⊎ ((p : ℕ) × (allowed (c ∷ cs) place s at ≡ refused 4 p))
-    go true e h = rw e h
-    go false e h = inr (place, rw e)
-
 -- a text that was read
-module _ (earlier : List Text) (s : List ℕ) (at : ℕ) (r : Read) (next : ℕ) (read : r ≡ forget (text earlier s at)) (g : r ≡ At next) where
-  not-refused : (m p : ℕ) → text earlier s at ≡ refused m p → ⊥
+module _ (s : List ℕ) (at : ℕ) (r : Read) (next : ℕ) (read : r ≡ forget (text [] s at)) (g : r ≡ At next) where
+  not-refused : (m p : ℕ) → text [] s at ≡ refused m p → ⊥
   unfolding forget
   not-refused m p e = not-both g (read ∙ ap forget e)
 
   text-told : (length s ≤ at) ⊎ (at < length s) → (getD s at 0 ≤ 0) ⊎ (0 < getD s at 0) → (getD s at 0 ≤ textLimit) ⊎ (textLimit < getD s at 0) → (past s at ≤ length s) ⊎ (length s < past s at)
-      → (text earlier s at ≡ ok (textAt s at) (past s at)) × (past s at ≤ length s)
+      → (text [] s at ≡ ok (textAt s at) (past s at)) × (past s at ≤ length s)
   unfolding text here check done refuse _>>=_ _>>_ bind
   text-told (inl h) n m w = absurd (not-refused 3 (length s) (rw (byte-end s at h)))
-  text-told (inr h) (inl n) m w = absurd (not-refused 4 at (empty-is earlier s at _ _ (byte-in s at h) (omega arith)))
-  text-told (inr h) (inr n) (inr m) w = absurd (not-refused 4 at (long-is earlier s at _ _ (byte-in s at h) m))
-  text-told (inr h) (inr n) (inl m) (inr w) = absurd (not-refused 3 (length s) (cut-is earlier s at _ _ (byte-in s at h) (λ z. omega arith) m w))
-  text-told (inr h) (inr n) (inl m) (inl w) = (go (allowed-told (textAt s at) (at + 1) s (past s at)) (among (textAt s at) earlier) refl, w)
+  text-told (inr h) (inl n) m w = absurd (not-refused 4 at (empty-is s at _ _ (byte-in s at h) (omega arith)))
+  text-told (inr h) (inr n) (inr m) w = absurd (not-refused 4 at (long-is s at _ _ (byte-in s at h) m))
+  text-told (inr h) (inr n) (inl m) (inr w) = absurd (not-refused 3 (length s) (cut-is s at _ _ (byte-in s at h) (λ z. omega arith) m w))
+  text-told (inr h) (inr n) (inl m) (inl w) = (go (bytes-judged (textAt s at) (at + 1) s (past s at)), w)
     where
-      whole : text earlier s at ≡ bind (allowed (textAt s at) (at + 1) s (past s at)) (λ u next. _>>_ (check (not (among (textAt s at) earlier)) 4 at) (done (textAt s at)) s next)
-      whole = whole-is earlier s at _ _ (byte-in s at h) (λ z. omega arith) m w
+      whole : text [] s at ≡ bind (allowed (textAt s at) (at + 1) s (past s at)) (λ u next. ok (textAt s at) next)
+      whole = whole-is s at _ _ (byte-in s at h) (λ z. omega arith) m w
 
-      go : (allowed (textAt s at) (at + 1) s (past s at) ≡ ok tt (past s at)) ⊎ ((p : ℕ) × (allowed (textAt s at) (at + 1) s (past s at) ≡ refused 4 p)) → (b : Bool) → among (textAt s at) earlier ≡ b → text earlier s at ≡ ok (textAt s at) (past s at)
-      go (inl a) false e = whole ∙ rw (a, e) refl
-      go (inl a) true e = absurd (not-refused 4 at (whole ∙ rw (a, e) refl))
-      go (inr a) b e = absurd (not-refused 4 (a .0) (whole ∙ rw (a .1) refl))
+      go : Judged (textAt s at) (at + 1) s (past s at) → text [] s at ≡ ok (textAt s at) (past s at)
+      go (inl a) = whole ∙ rw (a .1) refl
+      go (inr a) = absurd (not-refused 4 (a .1 .0) (whole ∙ rw (a .1 .1) refl))
 
-  told : (text earlier s at ≡ ok (textAt s at) (past s at)) × (past s at ≤ length s)
+  told : (text [] s at ≡ ok (textAt s at) (past s at)) × (past s at ≤ length s)
   told = text-told (le-or-lt _ _) (le-or-lt _ _) (le-or-lt _ _) (le-or-lt _ _)
 
   text-next : next ≡ past s at
   unfolding forget
   text-next = let z : At (past s at) ≡ At next = sym (ap forget (told .0)) ∙ sym read ∙ g in cc
 
-  text-read : text earlier s at ≡ ok (textAt s at) next
+  text-read : text [] s at ≡ ok (textAt s at) next
   text-read = rw text-next (told .0)
 
   -- its bytes are there
@@ -104,16 +93,8 @@ pub ruleset text-counts = (count-short, count-over, count-read)
 
 -- the texts behind their count
 pub texts-from : (s : List ℕ) → texts s 0 ≡ bind (textCount s 0) (λ n next. moreTexts n [] s next)
-unfolding texts textCount here check done refuse _>>=_ _>>_ bind
-texts-from s = go (number 2 s 0)
-  where
-    judge : (n next : ℕ) (b : Bool) → bind (check b 5 0 s next) (λ u k. moreTexts n [] s k) ≡ bind (bind (check b 5 0 s next) (λ u k. ok n k)) (λ n k. moreTexts n [] s k)
-    judge n next true = refl
-    judge n next false = refl
-
-    go : (x : Ans ℕ) → bind x (λ n next. _>>_ (check (leb n textsLimit) 5 0) (moreTexts n []) s next) ≡ bind (bind x (λ n next. _>>_ (check (leb n textsLimit) 5 0) (done n) s next)) (λ n next. moreTexts n [] s next)
-    go (ok n next) = judge n next (leb n textsLimit)
-    go (refused m p) = refl
+unfolding texts textCount here done _>>=_ _>>_ bind
+texts-from s = bind-into (number 2 s 0) _ _ _ (λ n k. bind-into (check (leb n textsLimit) 5 0 s k) _ _ _ (λ u k. refl))
 
 module _ (s : List ℕ) (n k : ℕ) (counted : textCount s 0 ≡ ok n k) where
   count-told : (2 ≤ length s) ⊎ (length s < 2) → (k ≡ 2) × (n ≤ textsLimit)
@@ -177,25 +158,41 @@ module _ (s kinds sums : List ℕ) (n i k : ℕ) (going : Going s kinds sums n i
   unfolding moreTexts _>>=_
   remain-more h = going .remain ∙ rw (left h) refl
 
-  pub going-refused : i < n → (b : Read) (m p : ℕ) → b ≡ forget (text (textsFrom s i 2) s k) → b ≡ Refused m p → Gathered s kinds n b
-  going-refused h b m p e g = gathered-none s kinds n b m p g (going .long) (rw (remain-more h) (bind-refused _ _ b m p e g))
+  module _ (h : i < n) (b : Read) (e : b ≡ forget (text [] s k)) where
+    pub going-refused : (m p : ℕ) → b ≡ Refused m p → Gathered s kinds n b
+    going-refused m p g = gathered-none s kinds n b m p g (going .long) (rw (remain-more h) (bind-refused _ _ b m p (rw (text-after (textsFrom s i 2) s k) (bind-refused _ _ b m p e g)) g))
 
-  pub going-more : i < n → (b : Read) (next : ℕ) → b ≡ forget (text (textsFrom s i 2) s k) → b ≡ At next
-      → (v w : ℕ) → v ≡ kindOf (take (next - (k + 1)) (drop (k + 1) s)) → w ≡ checksum (take (next - (k + 1)) (drop (k + 1) s)) → Going s (set kinds i v) (set sums i w) n (i + 1) next
-  unfolding bind
-  going-more h b next e g v w f u =
-      let l : i < length kinds = omega (arith, going .long, going .few) in
-      let m : i < length sums = omega (arith, going .room, going .few) in
-      record {
-        done-few = omega arith;
-        few = going .few;
-        place = rw add-one (past-more s i 2 ∙ rw (going .place) (sym (text-next _ s k b next e g)));
-        remain = remain-more h ∙ rw (text-read _ s k b next e g, add-one, texts-more s i 2, going .place) refl;
-        kept = rw (add-one, take-suc-set kinds i v l, texts-more s i 2, map-append, going .kept, going .place, f, text-part s k next (text-next _ s k b next e g)) refl;
-        long = length-set kinds i v ∙ going .long;
-        summed = rw (add-one, take-suc-set sums i w m, texts-more s i 2, map-append, going .summed, going .place, u, text-part s k next (text-next _ s k b next e g)) refl;
-        room = length-set sums i w ∙ going .room;
-      }
+    module _ (next : ℕ) (g : b ≡ At next) where
+      pub going-within : pastTexts s i 2 ≤ length s
+      going-within = omega (arith, going .place, text-inside s k b next e g)
+
+      part-is : take (next - (k + 1)) (drop (k + 1) s) ≡ textAt s k
+      part-is = text-part s k next (text-next s k b next e g)
+
+      module _ (r : Bool) (known : r ≡ among (take (next - (k + 1)) (drop (k + 1) s)) (textsFrom s i 2)) where
+        text-is : text (textsFrom s i 2) s k ≡ _>>_ (check (not r) 4 k) (done (textAt s k)) s next
+        unfolding bind
+        text-is = text-after (textsFrom s i 2) s k ∙ rw (text-read s k b next e g, rw part-is at known) refl
+
+        pub going-again : r ≡ true → Gathered s kinds n (Refused 4 k)
+        unfolding check refuse _>>_ bind forget
+        going-again t = gathered-none s kinds n (Refused 4 k) 4 k refl (going .long) (rw (remain-more h, text-is, t))
+
+        pub going-more : r ≡ false → (v w : ℕ) → v ≡ kindOf (take (next - (k + 1)) (drop (k + 1) s)) → w ≡ checksum (take (next - (k + 1)) (drop (k + 1) s)) → Going s (set kinds i v) (set sums i w) n (i + 1) next
+        unfolding check done _>>_ bind
+        going-more t v w f u =
+            let l : i < length kinds = omega (arith, going .long, going .few) in
+            let m : i < length sums = omega (arith, going .room, going .few) in
+            record {
+              done-few = omega arith;
+              few = going .few;
+              place = rw add-one (past-more s i 2 ∙ rw (going .place) (sym (text-next s k b next e g)));
+              remain = remain-more h ∙ rw (text-is, t, add-one, texts-more s i 2, going .place) refl;
+              kept = rw (add-one, take-suc-set kinds i v l, texts-more s i 2, map-append, going .kept, going .place, f, part-is) refl;
+              long = length-set kinds i v ∙ going .long;
+              summed = rw (add-one, take-suc-set sums i w m, texts-more s i 2, map-append, going .summed, going .place, u, part-is) refl;
+              room = length-set sums i w ∙ going .room;
+            }
 
   pub going-end : n ≤ i → Gathered s kinds n (At k)
   unfolding moreTexts done forget textsOf given kindsOf
@@ -205,4 +202,4 @@ module _ (s kinds sums : List ℕ) (n i k : ℕ) (going : Going s kinds sums n i
       let t : texts s 0 ≡ ok (textsFrom s i 2) k = going .remain ∙ rw z refl in
       record { answer = rw t; stored = λ m g. rw (t, sym j) (going .kept); long = going .long }
 
-pub ruleset gathering = (going-start, going-few, going-part, going-refused, going-more, going-end)
+pub ruleset gathering = (going-start, going-few, going-part, going-refused, going-within, going-again, going-more, going-end)

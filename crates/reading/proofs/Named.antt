@@ -20,7 +20,7 @@ use Rattle.reading.specs.declared.answers.ReadNumber.{ReadNumber}
 use Rattle.reading.specs.declared.answers.ReadText.{ReadText}
 use Rattle.reading.proofs.Taken.{number-same, text-ok, text-not}
 use Rattle.reading.proofs.Leaves.{le-or-lt}
-use Rattle.reading.proofs.Values.{never-ok}
+use Rattle.reading.proofs.Values.{never-ok, bind-into}
 use Rattle.reading.proofs.Spelled.{letter-below}
 
 -- the tests on a number
@@ -39,16 +39,8 @@ module _ (t : List Text) (s : List ℕ) (at : ℕ) where
 
   -- first any text, then the spelling
   spelled-after : (spelled : Text → Bool) → textNumber t spelled s at ≡ bind (textNumber t isPath s at) (λ n next. _>>_ (check (spelled (getD t n [])) 4 at) (done n) s next)
-  unfolding textNumber isPath here check done refuse _>>=_ _>>_ bind
-  spelled-after spelled = go (number 2 s at)
-    where
-      far : (n next : ℕ) (b : Bool) → bind (check b 4 at s next) (λ u k. _>>_ (check (spelled (getD t n [])) 4 at) (done n) s k) ≡ bind (bind (check b 4 at s next) (λ u k. ok n k)) (λ n k. _>>_ (check (spelled (getD t n [])) 4 at) (done n) s k)
-      far n next true = refl
-      far n next false = refl
-
-      go : (x : Ans ℕ) → bind x (λ n next. judged t spelled at s n next) ≡ bind (bind x (λ n next. judged t isPath at s n next)) (λ n next. _>>_ (check (spelled (getD t n [])) 4 at) (done n) s next)
-      go (ok n next) = far n next (ltb n (length t))
-      go (refused m place) = refl
+  unfolding textNumber isPath here check done _>>=_ _>>_ bind
+  spelled-after spelled = bind-into (number 2 s at) _ _ _ (λ n k. bind-into (check (ltb n (length t)) 4 at s k) _ _ _ (λ u k. refl))
 
 -- the number of texts, as the code knows it
 module _ (s kinds : List ℕ) (known : kinds ≡ kindsOf s) where

@@ -1,5 +1,5 @@
 -- Whether a text is among the earlier ones: a law for each way out of the code. Assumes nothing.
-use Prim.Native.Nat.{ℕ, zero, suc, _<_, _≤_, _+_, _-_, _*_, _%_, _^_}
+use Prim.Native.Nat.{ℕ, zero, suc, _<_, _≤_, _+_, _-_}
 use mathlib.Core.Path.{_≡_, refl, sym, ap, subst, _∙_}
 use mathlib.Core.List.{List, [], _∷_, map}
 use mathlib.Core.Bool.{Bool, true, false, not, _&&_, _||_, or-false}
@@ -11,23 +11,22 @@ use lib.Dec.{T, eqb}
 use borrow.Author.Tests.{eq-eqb, ne-eqb, eqb-true, eqb-false}
 use Rattle.ast.specs.Tree.{Text}
 use Rattle.tree.specs.Texts.{same, among}
-use Rattle.reading.specs.Section.{textAt, past, textsFrom, pastTexts, sumFrom, checksum, hasSum}
+use Rattle.reading.specs.Section.{textAt, past, textsFrom, pastTexts, checksum, hasSum}
 
--- texts whose checksums differ are different
-sums-differ : (x y : Text) (h : ℕ) → (sumFrom h x ≡ sumFrom h y → ⊥) → false ≡ same x y
-unfolding sumFrom same
-sums-differ [] [] h d = absurd (d refl)
-sums-differ [] (b ∷ y) h d = refl
-sums-differ (a ∷ x) [] h d = refl
-sums-differ (a ∷ x) (b ∷ y) h d = go (eqb a b) refl (λ f. sums-differ x y ((h * 251 + a) % 2 ^ 56) f)
+-- texts of which something differs are different
+texts-differ : (f : Text → ℕ) (x y : Text) → (f x ≡ f y → ⊥) → false ≡ same x y
+unfolding same
+texts-differ f [] [] d = absurd (d refl)
+texts-differ f [] (b ∷ y) d = refl
+texts-differ f (a ∷ x) [] d = refl
+texts-differ f (a ∷ x) (b ∷ y) d = go (eqb a b) refl (texts-differ (λ z. f (a ∷ z)) x y)
   where
-    go : (e : Bool) → eqb a b ≡ e → ((sumFrom ((h * 251 + a) % 2 ^ 56) x ≡ sumFrom ((h * 251 + a) % 2 ^ 56) y → ⊥) → false ≡ same x y) → false ≡ (e && same x y)
-    go false e f = refl
-    go true e f = f (λ g. d (g ∙ rw (eqb-true a b e) refl))
+    go : (e : Bool) → eqb a b ≡ e → ((f (a ∷ x) ≡ f (a ∷ y) → ⊥) → false ≡ same x y) → false ≡ (e && same x y)
+    go false e g = refl
+    go true e g = g (λ h. d (h ∙ rw (eqb-true a b e) refl))
 
 pub text-other : (x y : Text) (sum other : ℕ) → sum ≡ checksum x → other ≡ checksum y → (sum ≡ other → ⊥) → false ≡ same x y
-unfolding checksum
-text-other x y sum other e f d = sums-differ x y 0 (λ g. d (e ∙ g ∙ sym f))
+text-other x y sum other e f d = texts-differ checksum x y (λ g. d (e ∙ g ∙ sym f))
 
 -- a text whose checksum is among no others is not among their texts
 no-sum : (x : Text) (ts : List Text) → hasSum (checksum x) (map checksum ts) ≡ false → false ≡ among x ts

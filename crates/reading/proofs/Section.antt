@@ -1,132 +1,148 @@
 -- The text section: a law for each way out of the code. Assumes nothing.
-use Prim.Native.Nat.{ℕ, zero, suc, _<_, _≤_, _+_, _-_}
-use mathlib.Core.Path.{_≡_, refl, sym, ap, _∙_}
-use mathlib.Core.List.{List}
-use mathlib.Core.Bool.{Bool, true, false, not, _||_, and-false}
+use Prim.Native.Nat.{ℕ, _<_, _≤_, _+_, _-_}
+use mathlib.Core.Path.{_≡_, refl, sym, _∙_}
+use mathlib.Core.List.{List, [], _∷_}
+use mathlib.Core.Bool.{Bool, true, false, not, and-false, false≢true}
 use mathlib.Core.Logic.{_⊎_, inl, inr}
 use native.Mathlib.Omega.{arith}
-use native.Mathlib.Numerals.{sub-one}
 use lib.ListN.{length, getD, take, drop}
 use borrow.Author.Tests.{le-leb, lt-leb}
 use Rattle.ast.specs.Tree.{Text}
 use Rattle.tree.specs.Limits.{textLimit}
 use Rattle.tree.specs.Ans.{Ans, ok, refused, bind, _>>=_, _>>_, done, here, refuse, check}
 use Rattle.tree.specs.Read.{byte, bytes, within}
-use Rattle.tree.specs.Texts.{allowed, same, among, text}
-use Rattle.tree.proofs.Steps.{byte-end}
+use Rattle.tree.specs.Texts.{allowed, among, text, between, every}
 use Rattle.reading.specs.Answers.{forget, gaveByte, byteAnswer}
-use Rattle.reading.specs.Section.{textAt, past, textsFrom, pastTexts}
+use Rattle.reading.specs.Section.{textAt, past}
 use Rattle.reading.specs.declared.answers.Read.{Read}
 use Rattle.reading.specs.declared.answers.Read.the-variants.{At, Refused}
 use Rattle.reading.specs.declared.answers.ReadByte.{ReadByte}
 use Rattle.reading.proofs.Taken.{byte-ok}
 use Rattle.reading.proofs.Leaves.{le-or-lt, part-cons, part-none}
-use Rattle.reading.proofs.Values.{not-both, never-ok, bind-refused, byte-ends-it}
+use Rattle.reading.proofs.Values.{bind-into, byte-ends-it}
 
--- allowed bytes: what remains from `k` on decides
-module _ (s : List ℕ) (k e : ℕ) (x : Read) (inv : x ≡ forget (allowed (take (e - k) (drop k s)) k s e)) where
-  pub allowed-low : k < e → e ≤ length s → getD s k 0 < 33 → Refused 4 k ≡ x
+-- an allowed byte
+module _ (b : ℕ) where
+  pub allowed-low : b < 33 → false ≡ between 33 126 b
+  allowed-low h = rw (lt-leb 33 b h)
+
+  pub allowed-high : 126 < b → false ≡ between 33 126 b
+  allowed-high h = rw (lt-leb b 126 h, and-false)
+
+  pub allowed-is : 33 ≤ b → b ≤ 126 → true ≡ between 33 126 b
+  allowed-is g h = rw (le-leb 33 b g, le-leb b 126 h)
+
+pub ruleset allowed-byte = (allowed-low, allowed-high, allowed-is)
+
+-- bytes that are all allowed leave the place as it is, others are refused
+abbrev pub Judged : List ℕ → ℕ → List ℕ → ℕ → Type 0
+Judged cs place s at = ((every (between 33 126) cs ≡ true) × (allowed cs place s at ≡ ok tt at)) ⊎ ((every (between 33 126) cs ≡ false) × ((p : ℕ) × (allowed cs place s at ≡ refused 4 p)))
+
+pub bytes-judged : (cs : List ℕ) (place : ℕ) (s : List ℕ) (at : ℕ) → Judged cs place s at
+unfolding every allowed check done refuse _>>_ bind
+bytes-judged [] place s at = inl (refl, refl)
+bytes-judged (c ∷ cs) place s at = go (between 33 126 c) refl (bytes-judged cs (place + 1) s at)
+  where
+    go : (b : Bool) → between 33 126 c ≡ b → Judged cs (place + 1) s at → Judged (c ∷ cs) place s at
+    go true e h = rw e h
+    go false e h = inr (rw e, (place, rw e))
+
+pub allowed-all : (s : List ℕ) (at end : ℕ) (r : Bool) → r ≡ every (between 33 126) (take (end - at) (drop at s)) → r ≡ true → At end ≡ forget (allowed (take (end - at) (drop at s)) at s end)
+unfolding forget
+allowed-all s at end r e t = go (bytes-judged (take (end - at) (drop at s)) at s end)
+  where
+    go : Judged (take (end - at) (drop at s)) at s end → At end ≡ forget (allowed (take (end - at) (drop at s)) at s end)
+    go (inl h) = rw (h .1)
+    go (inr h) = absurd (false≢true (sym (h .0) ∙ sym e ∙ t))
+
+-- while the first byte that is not allowed is looked for: it is at `k` or behind
+pub record Seeking (s : List ℕ) (at end k : ℕ) : Type 0 where
+  pub there : k < end
+  pub bad : every (between 33 126) (take (end - k) (drop k s)) ≡ false
+  pub remain : forget (allowed (take (end - at) (drop at s)) at s end) ≡ forget (allowed (take (end - k) (drop k s)) k s end)
+
+bad-there : (s : List ℕ) (k end : ℕ) → every (between 33 126) (take (end - k) (drop k s)) ≡ false → k < end
+unfolding every
+bad-there s k end bad = go (le-or-lt end k)
+  where
+    go : (end ≤ k) ⊎ (k < end) → k < end
+    go (inl h) = absurd (false≢true (sym bad ∙ rw (part-none s k end h) refl))
+    go (inr h) = h
+
+pub seeking-start : (s : List ℕ) (at end : ℕ) (r : Bool) → r ≡ every (between 33 126) (take (end - at) (drop at s)) → r ≡ false → Seeking s at end at
+seeking-start s at end r e f = record { there = bad-there s at end (sym e ∙ f); bad = sym e ∙ f; remain = refl }
+
+module _ (s : List ℕ) (at end k : ℕ) (seeking : Seeking s at end k) (inside : end ≤ length s) (r : Bool) (e : r ≡ between 33 126 (getD s k 0)) where
+  pub seeking-more : r ≡ true → Seeking s at end (k + 1)
+  unfolding every allowed check done _>>_ bind
+  seeking-more t =
+      let bad : every (between 33 126) (take (end - (k + 1)) (drop (k + 1) s)) ≡ false = rw (part-cons s k end (seeking .there) inside, sym e, t) at (seeking .bad) in
+      record { there = bad-there s (k + 1) end bad; bad = bad; remain = seeking .remain ∙ rw (part-cons s k end (seeking .there) inside, sym e, t) refl }
+
+  pub seeking-here : r ≡ false → Refused 4 k ≡ forget (allowed (take (end - at) (drop at s)) at s end)
   unfolding allowed check refuse _>>_ bind forget
-  allowed-low h g c = sym (inv ∙ rw (part-cons s k e h g, lt-leb 33 (getD s k 0) c) refl)
+  seeking-here t = sym (seeking .remain ∙ rw (part-cons s k end (seeking .there) inside, sym e, t) refl)
 
-  pub allowed-high : k < e → e ≤ length s → 33 ≤ getD s k 0 → 126 < getD s k 0 → Refused 4 k ≡ x
-  unfolding allowed check refuse _>>_ bind forget
-  allowed-high h g b c = sym (inv ∙ rw (part-cons s k e h g, lt-leb (getD s k 0) 126 c, and-false) refl)
-
-  pub allowed-more : k < e → e ≤ length s → 33 ≤ getD s k 0 → getD s k 0 ≤ 126 → x ≡ forget (allowed (take (e - (k + 1)) (drop (k + 1) s)) (k + 1) s e)
-  unfolding allowed check done _>>_ bind
-  allowed-more h g b c = inv ∙ rw (part-cons s k e h g, le-leb 33 (getD s k 0) b, le-leb (getD s k 0) 126 c) refl
-
-  pub allowed-end : e ≤ k → At e ≡ x
-  unfolding allowed done forget
-  allowed-end h = sym (inv ∙ rw (part-none s k e h) refl)
-
-pub ruleset allowing-bytes = (allowed-low, allowed-high, allowed-more, allowed-end)
+pub ruleset seeking-laws = (allowed-all, seeking-start, seeking-more, seeking-here)
 
 pub text-part : (s : List ℕ) (at end : ℕ) → end ≡ past s at → take (end - (at + 1)) (drop (at + 1) s) ≡ textAt s at
 text-part s at end e = let n : end - (at + 1) ≡ getD s at 0 = omega arith in rw n
 
+-- first a text with no others before it, then the test on those before it
+pub text-after : (earlier : List Text) (s : List ℕ) (at : ℕ) → text earlier s at ≡ bind (text [] s at) (λ x next. _>>_ (check (not (among x earlier)) 4 at) (done x) s next)
+unfolding text among here check done _>>=_ _>>_ bind
+text-after earlier s at = bind-into (byte s at) _ _ _ (λ n k. bind-into (check (between 1 textLimit n) 4 at s k) _ _ _ (λ u k. bind-into (bytes n s k) _ _ _ (λ x next. bind-into (allowed x k s next) _ _ _ (λ u next. refl))))
+
 -- a text behind its length byte `n`
-module _ (earlier : List Text) (s : List ℕ) (at n start : ℕ) (begun : byte s at ≡ ok n start) where
-  pub empty-is : n ≡ 0 → text earlier s at ≡ refused 4 at
+module _ (s : List ℕ) (at n start : ℕ) (begun : byte s at ≡ ok n start) where
+  pub empty-is : n ≡ 0 → text [] s at ≡ refused 4 at
   unfolding text here check refuse _>>=_ _>>_ bind
   empty-is z = rw (begun, z)
 
-  pub long-is : textLimit < n → text earlier s at ≡ refused 4 at
+  pub long-is : textLimit < n → text [] s at ≡ refused 4 at
   unfolding text here check refuse _>>=_ _>>_ bind
   long-is l = rw (begun, le-leb 1 n (omega arith), lt-leb n textLimit l)
 
   module _ (some : n ≡ 0 → ⊥) (few : n ≤ textLimit) where
-    pub cut-is : length s < start + n → text earlier s at ≡ refused 3 (length s)
+    pub cut-is : length s < start + n → text [] s at ≡ refused 3 (length s)
     unfolding text here check done bytes within _>>=_ _>>_ bind
     cut-is l = rw (begun, le-leb 1 n (omega arith), le-leb n textLimit few, lt-leb (start + n) (length s) l)
 
-    pub whole-is : start + n ≤ length s → text earlier s at ≡ bind (allowed (take n (drop start s)) start s (start + n)) (λ u next. _>>_ (check (not (among (take n (drop start s)) earlier)) 4 at) (done (take n (drop start s))) s next)
-    unfolding text here check done bytes within _>>=_ _>>_ bind
+    pub whole-is : start + n ≤ length s → text [] s at ≡ bind (allowed (take n (drop start s)) start s (start + n)) (λ u next. ok (take n (drop start s)) next)
+    unfolding text among here check done bytes within _>>=_ _>>_ bind
     whole-is l = rw (begun, le-leb 1 n (omega arith), le-leb n textLimit few, le-leb (start + n) (length s) l)
 
--- a byte that was read is there
+-- a byte that was read
 module _ (s : List ℕ) (at : ℕ) (a : ReadByte) (read : a ≡ gaveByte (byte s at)) where
-  byte-there : (b k : ℕ) → a ≡ ReadByte.At b k → at < length s
-  byte-there b k g = go (le-or-lt (length s) at)
-    where
-      go : (length s ≤ at) ⊎ (at < length s) → at < length s
-      go (inl h) = absurd (never-ok (byte-ok a (byte s at) read b k g) (byte-end s at h))
-      go (inr h) = h
+  pub text-refused : (m p : ℕ) → a ≡ ReadByte.Refused m p → (r : Read) → r ≡ forget (byteAnswer a) → r ≡ forget (text [] s at)
+  unfolding text here _>>=_ bind
+  text-refused m p g = byte-ends-it _ _ a m p read g
 
-  pub past-there : (b k n : ℕ) → a ≡ ReadByte.At b k → pastTexts s n 2 ≡ at → pastTexts s n 2 ≤ length s
-  past-there b k n g e = omega (arith, byte-there b k g)
+  module _ (n start : ℕ) (g : a ≡ ReadByte.At n start) where
+    begun : byte s at ≡ ok n start
+    begun = byte-ok a (byte s at) read n start g
 
-  module _ (earlier : List Text) where
-    pub text-refused : (m p : ℕ) → a ≡ ReadByte.Refused m p → (r : Read) → r ≡ forget (byteAnswer a) → r ≡ forget (text earlier s at)
-    unfolding text here _>>=_ bind
-    text-refused m p g = byte-ends-it _ _ a m p read g
+    pub text-empty : n ≡ 0 → Refused 4 at ≡ forget (text [] s at)
+    unfolding forget
+    text-empty z = rw (empty-is s at n start begun z)
 
-    module _ (n start : ℕ) (g : a ≡ ReadByte.At n start) where
-      begun : byte s at ≡ ok n start
-      begun = byte-ok a (byte s at) read n start g
+    pub text-long : textLimit < n → Refused 4 at ≡ forget (text [] s at)
+    unfolding forget
+    text-long l = rw (long-is s at n start begun l)
 
-      pub text-empty : n ≡ 0 → Refused 4 at ≡ forget (text earlier s at)
+    module _ (some : n ≡ 0 → ⊥) (few : n ≤ textLimit) (width left : ℕ) (e : width ≡ n) (f : left ≡ length s - start) where
+      pub text-cut : left < width → Refused 3 (length s) ≡ forget (text [] s at)
       unfolding forget
-      text-empty z = rw (empty-is earlier s at n start begun z)
+      text-cut l = rw (cut-is s at n start begun some few (omega arith))
 
-      pub text-long : textLimit < n → Refused 4 at ≡ forget (text earlier s at)
-      unfolding forget
-      text-long l = rw (long-is earlier s at n start begun l)
+      pub text-whole : width ≤ left → (r : Read) → r ≡ forget (allowed (take (start + width - start) (drop start s)) start s (start + width)) → r ≡ forget (text [] s at)
+      unfolding forget bind
+      text-whole l r h =
+          let z : start + width - start ≡ n = omega arith in
+          (rw (z, e) at h) ∙ rw (whole-is s at n start begun some few (omega arith)) (go (allowed (take n (drop start s)) start s (start + n)))
+        where
+          go : (x : Ans (Unit {0})) → forget x ≡ forget (bind x (λ u next. ok (take n (drop start s)) next))
+          go (ok u next) = refl
+          go (refused m p) = refl
 
-      module _ (some : n ≡ 0 → ⊥) (few : n ≤ textLimit) (width left : ℕ) (e : width ≡ n) (f : left ≡ length s - start) where
-        pub text-cut : left < width → Refused 3 (length s) ≡ forget (text earlier s at)
-        unfolding forget
-        text-cut l = rw (cut-is earlier s at n start begun some few (omega arith))
-
-        module _ (whole : width ≤ left) (b : Read) (allow : b ≡ forget (allowed (take (start + width - start) (drop start s)) start s (start + width))) where
-          same-part : take (start + width - start) (drop start s) ≡ take n (drop start s)
-          same-part = let z : start + width - start ≡ n = omega arith in rw z
-
-          allow-here : b ≡ forget (allowed (take n (drop start s)) start s (start + n))
-          allow-here = rw (same-part, e) at allow
-
-          whole-here : text earlier s at ≡ bind (allowed (take n (drop start s)) start s (start + n)) (λ u next. _>>_ (check (not (among (take n (drop start s)) earlier)) 4 at) (done (take n (drop start s))) s next)
-          whole-here = whole-is earlier s at n start begun some few (omega arith)
-
-          pub text-bad : (m p : ℕ) → b ≡ Refused m p → b ≡ forget (text earlier s at)
-          text-bad m p h = rw whole-here (bind-refused _ _ b m p allow-here h)
-
-          module _ (k : ℕ) (h : b ≡ At k) (r : Bool) (known : r ≡ among (take (start + width - start) (drop start s)) earlier) where
-            text-judged : forget (text earlier s at) ≡ forget (_>>_ (check (not r) 4 at) (done (take n (drop start s))) s k)
-            unfolding forget bind
-            text-judged = ap forget whole-here ∙ rw (sym (rw same-part at known)) (go (allowed (take n (drop start s)) start s (start + n)) allow-here)
-              where
-                go : (x : Ans (Unit {0})) → b ≡ forget x → forget (bind x (λ u next. _>>_ (check (not r) 4 at) (done (take n (drop start s))) s next)) ≡ forget (_>>_ (check (not r) 4 at) (done (take n (drop start s))) s k)
-                go (ok u next) e = let z : next ≡ k = cc in rw z
-                go (refused m p) e = absurd (not-both h e)
-
-            pub text-again : r ≡ true → Refused 4 at ≡ forget (text earlier s at)
-            unfolding check refuse _>>_ bind forget
-            text-again t = sym (text-judged ∙ rw t refl)
-
-            pub text-new : r ≡ false → At k ≡ forget (text earlier s at)
-            unfolding check done _>>_ bind forget
-            text-new t = sym (text-judged ∙ rw t refl)
-
-pub ruleset one-text = (text-refused, text-empty, text-long)
+pub ruleset one-text = (text-refused, text-empty, text-long, text-cut, text-whole)

@@ -1,8 +1,8 @@
 -- How texts are spelled, and whether two are equal: a law for each way out of the code. Assumes nothing.
-use Prim.Native.Nat.{ℕ, suc, _<_, _≤_, _+_, _-_, _*_, _%_, _^_}
+use Prim.Native.Nat.{ℕ, suc, _<_, _≤_, _+_, _-_, _*_, _^_}
 use mathlib.Core.Path.{_≡_, refl, sym, ap, _∙_}
 use mathlib.Core.List.{List, [], _∷_}
-use mathlib.Core.Bool.{Bool, true, false, _&&_, _||_, or-false, and-false, and-true}
+use mathlib.Core.Bool.{Bool, true, false, _&&_, _||_, or-false, and-false, and-true, and-comm, and-assoc}
 use native.Mathlib.Omega.{arith}
 use native.Mathlib.Nat.{mod-lt}
 use native.Mathlib.Numerals.{add-one}
@@ -11,7 +11,7 @@ use lib.Seq.{drop-cons, take-all}
 use lib.Dec.{eqb}
 use borrow.Author.Tests.{le-leb, lt-leb, eq-eqb, ne-eqb}
 use Rattle.tree.specs.Texts.{letter, digit, every, digits, fraction, isName, isFloat, same}
-use Rattle.reading.specs.Section.{kindBy, kindOf, sumFrom, checksum}
+use Rattle.reading.specs.Section.{kindBy, kindOf, mix, fourAt, sumFrom, checksum}
 
 -- the part of a slice from a place on
 rest : (x : List ℕ) (i : ℕ) → take (length x - i) (drop i x) ≡ drop i x
@@ -78,18 +78,14 @@ module _ (c : ℕ) (l : Bool) where
 pub ruleset allowing = (allows-letter, allows-digit, allows-other)
 
 -- every byte: what remains from `i` on decides
-module _ (p : ℕ → Bool) (x : List ℕ) (i : ℕ) (inv : every p x ≡ every p (drop i x)) where
-  pub every-stop : i < length x → (r : Bool) → r ≡ p (getD x i 0) → r ≡ false → false ≡ every p x
+module _ (p : ℕ → Bool) (x : List ℕ) (good : Bool) (i : ℕ) (inv : every p x ≡ (good && every p (drop i x))) where
+  pub every-more : i < length x → (q : Bool) → q ≡ p (getD x i 0) → (r : Bool) → r ≡ (q && good) → every p x ≡ (r && every p (drop (i + 1) x))
   unfolding every
-  every-stop h r e g = sym (inv ∙ rw (drop-cons x i 0 h, sym e, g) refl)
+  every-more h q e r f = inv ∙ rw (drop-cons x i 0 h, add-one, f, e) (rw (and-comm (p (getD x i 0)) good, and-assoc) refl)
 
-  pub every-more : i < length x → (r : Bool) → r ≡ p (getD x i 0) → r ≡ true → every p x ≡ every p (drop (i + 1) x)
+  pub every-end : length x ≤ i → good ≡ every p x
   unfolding every
-  every-more h r e g = inv ∙ rw (drop-cons x i 0 h, sym e, g, add-one) refl
-
-  pub every-end : length x ≤ i → true ≡ every p x
-  unfolding every
-  every-end h = sym (inv ∙ rw (drop-of-length-le x h) refl)
+  every-end h = sym (inv ∙ rw (drop-of-length-le x h) (and-true good))
 
 -- the same of a fraction
 module _ (x : List ℕ) (i : ℕ) (inv : fraction x ≡ fraction (drop i x)) where
@@ -109,7 +105,7 @@ module _ (x : List ℕ) (i : ℕ) (inv : fraction x ≡ fraction (drop i x)) whe
   unfolding fraction
   fraction-end h = sym (inv ∙ rw (drop-of-length-le x h) refl)
 
-pub ruleset scanning = (every-stop, every-more, every-end, fraction-more, fraction-point, fraction-stop, fraction-end)
+pub ruleset scanning = (every-more, every-end, fraction-more, fraction-point, fraction-stop, fraction-end)
 
 -- the spelling of a whole text, by its first byte
 module _ (x : List ℕ) where
@@ -192,28 +188,48 @@ module _ (x : List ℕ) where
 
 pub ruleset spelled = (digits-none, digits-all, name-none, name-first, name-other, float-none, float-first, float-other, kind-name, kind-float, kind-neither)
 
+-- a byte that goes in alone
+sum-one : (h a : ℕ) (cs : List ℕ) → length cs < 3 → sumFrom h (a ∷ cs) ≡ sumFrom (mix h a) cs
+unfolding sumFrom
+sum-one h a [] l = refl
+sum-one h a (b ∷ []) l = refl
+sum-one h a (b ∷ c ∷ []) l = refl
+sum-one h a (b ∷ c ∷ d ∷ cs) l = absurd (omega arith)
+
 -- the checksum: what remains from `i` on decides
 pub record Summing (x : List ℕ) (h i : ℕ) : Type 0 where
   pub low : h < 2 ^ 56
+  pub within : i ≤ length x
   pub remain : checksum x ≡ sumFrom h (drop i x)
 
 pub summing-start : (x : List ℕ) → Summing x 0 0
 unfolding checksum
-summing-start x = record { low = omega arith; remain = refl }
+summing-start x = record { low = omega arith; within = omega arith; remain = refl }
 
 module _ (x : List ℕ) (h i : ℕ) (summing : Summing x h i) where
-  pub summing-more : i < length x → (b : ℕ) → b ≡ getD x i 0 → Summing x ((h * 251 + b) % 2 ^ 56) (i + 1)
+  pub summing-four : i + 4 ≤ length x → (w : ℕ) → w ≡ fourAt x i → (r : ℕ) → r ≡ mix h w → Summing x r (i + 4)
   unfolding sumFrom
-  summing-more l b e = record {
-    low = mod-lt (h * 251 + b) (omega arith);
-    remain = summing .remain ∙ rw (drop-cons x i 0 l, add-one, e) refl;
+  summing-four l w e r f = record {
+    low = rw f (mod-lt (h * 157 + w) (omega arith));
+    within = l;
+    remain = summing .remain ∙ rw (next i (i + 1) (omega arith) refl, next (i + 1) (i + 2) (omega arith) (omega arith), next (i + 2) (i + 3) (omega arith) (omega arith), next (i + 3) (i + 4) (omega arith) (omega arith), f, e) refl;
+  }
+    where
+      next : (j k : ℕ) → j < length x → k ≡ j + 1 → drop j x ≡ getD x j 0 ∷ drop k x
+      next j k l e = rw (e, add-one) (drop-cons x j 0 l)
+
+  pub summing-one : length x < i + 4 → i < length x → (b : ℕ) → b ≡ getD x i 0 → (r : ℕ) → r ≡ mix h b → Summing x r (i + 1)
+  summing-one s l b e r f = record {
+    low = rw f (mod-lt (h * 157 + b) (omega arith));
+    within = omega arith;
+    remain = summing .remain ∙ rw (drop-cons x i 0 l, f, e, add-one) (sum-one h (getD x i 0) (drop (suc i) x) (omega (arith, length-drop (suc i) x)));
   }
 
   pub summing-end : length x ≤ i → h ≡ checksum x
   unfolding sumFrom
   summing-end l = sym (summing .remain ∙ rw (drop-of-length-le x l) refl)
 
-pub ruleset summed = (summing-start, summing-more, summing-end)
+pub ruleset summed = (summing-start, summing-four, summing-one, summing-end)
 
 -- two texts byte by byte
 pub same-lengths : (x y : List ℕ) → (length x ≡ length y → ⊥) → false ≡ same x y

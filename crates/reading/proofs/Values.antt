@@ -36,6 +36,12 @@ module _ {A B : Type 0} (x : Ans A) (f : A → ℕ → Ans B) (r : Read) where
       go (ok a next) e = absurd (not-both e h)
       go (refused m n) e = e
 
+-- a reader taken apart: its first part, then the rest
+pub bind-into : {A B C : Type 0} (x : Ans A) (f : A → ℕ → Ans C) (g : A → ℕ → Ans B) (h : B → ℕ → Ans C) → ((a : A) (k : ℕ) → f a k ≡ bind (g a k) h) → bind x f ≡ bind (bind x g) h
+unfolding bind
+bind-into (ok a k) f g h e = e a k
+bind-into (refused m p) f g h e = refl
+
 -- a byte that was refused
 pub byte-ends-it : {B : Type 0} (x : Ans ℕ) (f : ℕ → ℕ → Ans B) (a : ReadByte) (m p : ℕ) → a ≡ gaveByte x → a ≡ ReadByte.Refused m p → (r : Read) → r ≡ forget (byteAnswer a) → r ≡ forget (bind x f)
 byte-ends-it x f a m p e g r h = bind-refused x f r m p (byte-left a x e r h) (byte-refused a m p g r h)

@@ -45,10 +45,24 @@ ofKind kind x = eqb (kindOf x) kind
 unfoldable pub kindsOf : List ℕ → List ℕ
 kindsOf s = map kindOf (textsOf s)
 
--- a checksum: texts whose checksums differ are different
+-- a checksum with a number put in
+abbrev pub mix : ℕ → ℕ → ℕ
+mix h w = (h * 157 + w) % 2 ^ 56
+
+-- four bytes as one number
+abbrev pub four : ℕ → ℕ → ℕ → ℕ → ℕ
+four a b c d = a + b * 256 + c * 65536 + d * 16777216
+
+abbrev pub fourAt : List ℕ → ℕ → ℕ
+fourAt x i = four (getD x i 0) (getD x (i + 1) 0) (getD x (i + 2) 0) (getD x (i + 3) 0)
+
+-- a checksum: texts whose checksums differ are different. Four bytes go in at a time, the last ones one by one
 unfoldable pub sumFrom : ℕ → Text → ℕ
 sumFrom h [] = h
-sumFrom h (c ∷ cs) = sumFrom ((h * 251 + c) % 2 ^ 56) cs
+sumFrom h (a ∷ []) = mix h a
+sumFrom h (a ∷ b ∷ []) = mix (mix h a) b
+sumFrom h (a ∷ b ∷ c ∷ []) = mix (mix (mix h a) b) c
+sumFrom h (a ∷ b ∷ c ∷ d ∷ cs) = sumFrom (mix h (four a b c d)) cs
 
 unfoldable pub checksum : Text → ℕ
 checksum x = sumFrom 0 x

@@ -1,9 +1,11 @@
 // How names and float literals are spelled, and whether two texts are equal.
 use crate::numbers::wide;
 ghost use mathlib.Core.Path.{_≡_};
+ghost use Prim.Native.Nat.{_<_, _≤_, _+_, _^_};
+ghost use lib.ListN.{length};
 ghost use mathlib.Core.Bool.{_&&_, _||_};
 ghost use Rattle.tree.specs.Texts.{letter, digit, every, digits, fraction, isName, isFloat, same};
-ghost use Rattle.reading.specs.Section.{kindOf, checksum as sumOf};
+ghost use Rattle.reading.specs.Section.{kindOf, mix, fourAt, checksum as sumOf};
 
 pub const NEITHER: u8 = 0;
 
@@ -36,19 +38,26 @@ fn is_digit(c: u8) -> bool
     }
 }
 
-// Digits alone; with `letters`, letters and underscores too.
+pub fn both(a: bool, b: bool) -> bool
+    ensures { λ r. ⌜ r ≡ (a && b) ⌝ }
+{
+    if a {
+        return b;
+    }
+    false
+}
+
+// Digits alone; with `letters`, letters and underscores too. Every byte is looked at, so that many are at once.
 fn all_of(x: &[u8], letters: bool) -> bool
     ensures { λ r. ⌜ r ≡ every (λ c. (letters && letter c) || digit c) (now (x .entry)) ⌝ }
 {
+    let mut good = true;
     let mut i = 0;
     while i < x.len() {
-        if allows(letters, x[i]) {
-            i += 1;
-        } else {
-            return false;
-        }
+        good = both(allows(letters, x[i]), good);
+        i += 1;
     }
-    true
+    good
 }
 
 fn allows(letters: bool, c: u8) -> bool
@@ -126,13 +135,34 @@ pub fn kind(x: &[u8]) -> u8
     NEITHER
 }
 
+// A checksum with a number put in.
+fn mixed(h: u64, w: u64) -> u64
+    requires { ⌜ (h < 2 ^ 56) × (w < 2 ^ 32) ⌝ }
+    ensures { λ r. ⌜ r ≡ mix h w ⌝ }
+{
+    (h * 157 + w) % SUM_LIMIT
+}
+
+// Four bytes as one number.
+fn four_at(x: &[u8], i: usize) -> u64
+    requires { ⌜ i + 4 ≤ length (now x) ⌝ }
+    ensures { λ r. ⌜ (r ≡ fourAt (now (x .entry)) i) × (r < 2 ^ 32) ⌝ }
+{
+    let n = wide(x[i]) + wide(x[i + 1]) * 256 + wide(x[i + 2]) * 65536 + wide(x[i + 3]) * 16777216;
+    n as u64
+}
+
 pub fn checksum(x: &[u8]) -> u64
     ensures { λ r. ⌜ r ≡ sumOf (now (x .entry)) ⌝ }
 {
     let mut h = 0;
     let mut i = 0;
+    while i + 4 <= x.len() {
+        h = mixed(h, four_at(x, i));
+        i += 4;
+    }
     while i < x.len() {
-        h = (h * 251 + wide(x[i]) as u64) % SUM_LIMIT;
+        h = mixed(h, wide(x[i]) as u64);
         i += 1;
     }
     h

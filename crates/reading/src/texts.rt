@@ -13,9 +13,9 @@ ghost use mathlib.Core.Path.{_≡_};
 ghost use Prim.Native.Nat.{_≤_, _-_};
 ghost use mathlib.Core.Bool.{_||_};
 ghost use lib.Dec.{eqb};
-ghost use mathlib.Core.List.{map};
+ghost use mathlib.Core.List.{[], map};
 ghost use lib.ListN.{length, take, drop};
-ghost use Rattle.tree.specs.Texts.{allowed, same, among, text, isName, isFloat, isPath};
+ghost use Rattle.tree.specs.Texts.{between, every, allowed, same, among, text, isName, isFloat, isPath};
 ghost use Rattle.tree.specs.Exprs.{textNumber};
 ghost use Rattle.reading.specs.Answers.{forget, gaveNumber, gaveText};
 ghost use Rattle.reading.specs.Section.{textAt, past, textsFrom, pastTexts, textCount, ofKind, kindsOf, checksum, hasSum, Gathered};
@@ -31,23 +31,44 @@ const FIRST_BYTE: u8 = 33;
 
 const LAST_BYTE: u8 = 126;
 
-// The bytes of a text, from `at` to `end`.
+fn is_allowed(b: u8) -> bool
+    ensures { λ r. ⌜ r ≡ between 33 126 b ⌝ }
+{
+    if b < FIRST_BYTE {
+        return false;
+    }
+    if LAST_BYTE < b {
+        return false;
+    }
+    true
+}
+
+// Every byte is looked at, so that many are at once.
+fn all_allowed(x: &[u8]) -> bool
+    ensures { λ r. ⌜ r ≡ every (between 33 126) (now (x .entry)) ⌝ }
+{
+    let mut good = true;
+    let mut i = 0;
+    while i < x.len() {
+        good = spelling::both(is_allowed(x[i]), good);
+        i += 1;
+    }
+    good
+}
+
+// The bytes of a text, from `at` to `end`: the first that is not allowed is refused.
 fn read_allowed(s: &[u8], at: usize, end: usize) -> Read
     requires { ⌜ (at ≤ end) × (end ≤ length (now s)) ⌝ }
     ensures { λ r. ⌜ r ≡ forget (allowed (take (end - at) (drop at (now (s .entry)))) at (now (s .entry)) end) ⌝ }
 {
+    if all_allowed(&s[at..end]) {
+        return Read::At(end);
+    }
     let mut k = at;
-    while k < end {
-        let b = s[k];
-        if b < FIRST_BYTE {
-            return Read::Refused(4, k);
-        }
-        if LAST_BYTE < b {
-            return Read::Refused(4, k);
-        }
+    while is_allowed(s[k]) {
         k += 1;
     }
-    Read::At(end)
+    Read::Refused(4, k)
 }
 
 // The place past the text whose length byte is at `at`.
@@ -102,13 +123,13 @@ fn has_sum(sums: &[u64], sum: u64) -> bool
 }
 
 // Whether a text equals one of the first `n`, whose checksums are lent.
-fn is_repeated(s: &[u8], x: &[u8], n: usize, sums: &[u64]) -> bool
+fn is_repeated(s: &[u8], x: &[u8], sum: u64, n: usize, sums: &[u64]) -> bool
+    requires { ⌜ sum ≡ checksum (now x) ⌝ }
     requires { ⌜ n ≤ 256 ⌝ }
     requires { ⌜ pastTexts (now s) n 2 ≤ length (now s) ⌝ }
     requires { ⌜ now sums ≡ map checksum (textsFrom (now s) n 2) ⌝ }
     ensures { λ r. ⌜ r ≡ among (now (x .entry)) (textsFrom (now (s .entry)) n 2) ⌝ }
 {
-    let sum = spelling::checksum(x);
     if !has_sum(sums, sum) {
         return false;
     }
@@ -124,12 +145,9 @@ fn is_repeated(s: &[u8], x: &[u8], n: usize, sums: &[u64]) -> bool
     false
 }
 
-// A text behind `n` others.
-fn read_text(s: &[u8], at: usize, n: usize, sums: &[u64]) -> Read
-    requires { ⌜ n ≤ 256 ⌝ }
-    requires { ⌜ pastTexts (now s) n 2 ≡ at ⌝ }
-    requires { ⌜ now sums ≡ map checksum (textsFrom (now s) n 2) ⌝ }
-    ensures { λ r. ⌜ r ≡ forget (text (textsFrom (now (s .entry)) n 2) (now (s .entry)) at) ⌝ }
+// A text. Whether an earlier one is equal is not asked.
+fn read_text(s: &[u8], at: usize) -> Read
+    ensures { λ r. ⌜ r ≡ forget (text [] (now (s .entry)) at) ⌝ }
 {
     let a = read_byte(s, at);
     let ReadByte::At(length, start) = a else {
@@ -146,14 +164,7 @@ fn read_text(s: &[u8], at: usize, n: usize, sums: &[u64]) -> Read
         return Read::Refused(3, s.len());
     }
     let end = start + width;
-    let b = read_allowed(s, start, end);
-    let Read::At(k) = b else {
-        return b;
-    };
-    if is_repeated(s, &s[start..end], n, sums) {
-        return Read::Refused(4, at);
-    }
-    Read::At(k)
+    read_allowed(s, start, end)
 }
 
 // How many texts there are.
@@ -180,13 +191,17 @@ pub fn read_texts(s: &[u8], first: usize, n: usize, kinds: &mut [u8; TEXTS_LIMIT
     let mut k = first;
     let mut i = 0;
     while i < n {
-        let a = read_text(s, k, i, &sums[..i]);
+        let a = read_text(s, k);
         let Read::At(next) = a else {
             return a;
         };
         let x = &s[k + 1..next];
+        let sum = spelling::checksum(x);
+        if is_repeated(s, x, sum, i, &sums[..i]) {
+            return Read::Refused(4, k);
+        }
         kinds[i] = spelling::kind(x);
-        sums[i] = spelling::checksum(x);
+        sums[i] = sum;
         k = next;
         i += 1;
     }

@@ -1,5 +1,5 @@
 -- `reading::spelling::checksum` meets its contract. Assumes nothing.
-use Prim.Native.Nat.{_-_}
+use Prim.Native.Nat.{_<_, _+_, _-_}
 use lib.ListN.{length}
 use Rattle.reading.proofs.Spelled.{Summing, summed}
 use borrow.Author.Needs.{needs}
@@ -12,15 +12,27 @@ Inv-loop x h₀ i₀ h i = Summing x h i
 abbrev μ-loop : tie.MeasureT-loop
 μ-loop x h₀ i₀ h i = length x - i
 
+abbrev Inv-loop2 : tie.InvT-loop2
+Inv-loop2 x h₀ i₀ h i = Summing x h i × (length x < i + 4)
+
+abbrev μ-loop2 : tie.MeasureT-loop2
+μ-loop2 x h₀ i₀ h i = length x - i
+
 pub checksum-spec : {M : Type 1} → statement M
 checksum-spec =
-    tie.close (tie.spec Inv-loop μ-loop
+    tie.close (tie.spec Inv-loop μ-loop Inv-loop2 μ-loop2
     (λ c. search summed)  -- loop-holds
-    (λ c. search needs)  -- mul-h
-    (λ c. search needs)  -- shared-slice-read-wide
-    (λ c κs. search needs)  -- wide-requires
-    (λ c. search needs)  -- add-h
+    (λ c. search needs)  -- add-loop
+    (λ c κs. search needs)  -- four-at-requires
+    (λ c κs. search needs)  -- mixed-requires
     (λ c. search needs)  -- add-i
     (λ c. search needs)  -- loop-less
     (λ c. search summed)  -- loop-again
+    (λ c. (search needs, search needs))  -- loop2-holds
+    (λ c. search needs)  -- shared-slice-read-wide
+    (λ c κs. search needs)  -- wide-requires
+    (λ c κs. search needs)  -- mixed-requires-2
+    (λ c. search needs)  -- add-i-2
+    (λ c. search needs)  -- loop2-less
+    (λ c. (search summed, search needs))  -- loop2-again
     (λ c. search summed))  -- returns

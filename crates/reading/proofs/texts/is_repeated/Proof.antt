@@ -5,17 +5,16 @@ use Rattle.reading.proofs.texts.is_repeated.Statement.{statement}
 use Rattle.reading.proofs.texts.is_repeated.Tie as tie
 
 abbrev Inv-loop : tie.InvT-loop
-Inv-loop s x n sums sum k₀ i₀ k i = Looking s x n sums k i
+Inv-loop s x sum n sums k₀ i₀ k i = Looking s x n sums k i
 
 abbrev μ-loop : tie.MeasureT-loop
-μ-loop s x n sums sum k₀ i₀ k i = i
+μ-loop s x sum n sums k₀ i₀ k i = i
 
 pub is-repeated-spec : {M : Type 1} → statement M
 is-repeated-spec =
     tie.close (tie.spec Inv-loop μ-loop
-    (λ c κs. search needs)  -- checksum-requires
     (λ c κs. search needs)  -- has-sum-requires
-    (λ c. not-repeated _ _ _ _ _ (c .before .before .before .before .before .before .pre .1 .1) (c .before .before .checksum .ensures) _ (c .before .has-sum .ensures) (c .if1 .taken))  -- returns
+    (λ c. search not-repeated)  -- returns
     (λ c. search looking-laws)  -- loop-holds
     (λ c. search needs)  -- sub-is-text
     (λ c. search needs)  -- mul-is-text
