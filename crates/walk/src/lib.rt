@@ -3,7 +3,6 @@
 use accepted::numbers::u16_at;
 use context::State;
 ghost use mathlib.Core.Path.{_≡_};
-ghost use mathlib.Core.List.{List};
 ghost use Prim.Native.Nat.{suc, _-_, _≤_, _<_};
 ghost use lib.ListN.{getD};
 ghost use Rattle.tree.specs.Ans.{IsOk, nextOf};
