@@ -1,9 +1,7 @@
-// Operands, and the Options and Vecs of fixed sizes.
+// Operands, and the Options in them.
 ghost use mathlib.Core.Path.{_≡_};
-ghost use Prim.Native.Nat.{_+_};
 ghost use Rattle.tree.specs.Ans.{ok, IsOk};
 ghost use Rattle.tree.specs.Read.{u64, option};
-ghost use Rattle.tree.specs.Exprs.{name};
 ghost use Rattle.tree.specs.Stmts.{slice, operand};
 ghost use Rattle.tree.specs.Decode.{textsOf};
 ghost use Rattle.context.specs.Values.{numberOf, endsOf, operandOf};

@@ -1,6 +1,6 @@
 // Steps over the parts of statements: sizes added by the bytes that say what follows.
 ghost use mathlib.Core.Path.{_≡_};
-ghost use Prim.Native.Nat.{_+_, _≤_, _<_};
+ghost use Prim.Native.Nat.{_≤_, _<_};
 ghost use lib.ListN.{length};
 ghost use Rattle.tree.specs.Ans.{IsOk, nextOf};
 ghost use Rattle.tree.specs.Read.{u64, option, vec};

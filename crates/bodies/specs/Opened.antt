@@ -5,7 +5,7 @@ use mathlib.Core.Bool.{not}
 use mathlib.Core.List.{List, [], _∷_}
 use lib.ListN.{length, getD}
 use Rattle.span.specs.declared.Span.{Span}
-use Rattle.ast.specs.Tree.{Text, TextNumber, noStmt}
+use Rattle.ast.specs.Tree.{Text, TextNumber}
 use Rattle.ast.specs.declared.ClassicalType.{ClassicalType}
 use Rattle.tree.specs.Ans.{nextOf, given}
 use Rattle.tree.specs.Read.{vec}

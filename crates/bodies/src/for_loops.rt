@@ -9,7 +9,7 @@ ghost use Rattle.tree.specs.Stmts.{stmt, held, forRange};
 ghost use Rattle.tree.specs.Decode.{textsOf};
 ghost use Rattle.sema.specs.Stmts.{stepSays};
 ghost use Rattle.context.specs.Sink.{SinkFits};
-ghost use Rattle.context.specs.View.{typeOf, scopesOf, functionsOf, TextsAt};
+ghost use Rattle.context.specs.View.{scopesOf, functionsOf, TextsAt};
 ghost use Rattle.promises.specs.Emitted.{Emitted};
 ghost use Rattle.promises.specs.Typings.{plainContext};
 ghost use Rattle.bodies.specs.Parts.{ForPartsOf, isInt, variableSays, boundsSay};

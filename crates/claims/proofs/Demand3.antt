@@ -1,10 +1,10 @@
 -- Demand 3 for every accepted call. Assumes nothing.
 use Prim.Native.Nat.{ℕ, _≤_}
-use mathlib.Core.Path.{_≡_, refl, sym, ap, _∙_}
+use mathlib.Core.Path.{_≡_, refl, sym}
 use mathlib.Core.Bool.{Bool, true, false}
-use mathlib.Core.List.{List, _++_}
+use mathlib.Core.List.{List}
 use native.Mathlib.Omega.{arith}
-use lib.ListN.{length, take, drop}
+use lib.ListN.{length, drop}
 use lib.Seq.{take-at}
 use lib.Dec.{ltb}
 use borrow.Author.Tests.{ltb-false}
@@ -16,7 +16,7 @@ use Rattle.sema.specs.Messages.{Diagnostic}
 use Rattle.sema.specs.Keys.{keys}
 use Rattle.sema.specs.Stmts.{analyze}
 use Rattle.listing.specs.Listing.{listing, listingOf}
-use Rattle.answer.specs.Answer.{Answer, accepted, refusal, scratchSize, unlessRefused, judgeListing, judgeDiagnostics, judgeProgram, judgeFile, answer, listingFile, listingAfter}
+use Rattle.answer.specs.Answer.{accepted, refusal, scratchSize, unlessRefused, judgeListing, judgeDiagnostics, judgeProgram, judgeFile, answer, listingFile, listingAfter}
 use Rattle.paths.proofs.Bytes.{demand-3-bytes}
 use Rattle.claims.specs.Claim.{programOf, Claim}
 

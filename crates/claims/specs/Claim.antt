@@ -2,7 +2,6 @@
 use Prim.Native.Nat.{ℕ}
 use mathlib.Core.List.{List, []}
 use lib.ListN.{take}
-use Rattle.text.specs.Text.{text}
 use Rattle.span.specs.declared.Span.{Span}
 use Rattle.ast.specs.Tree.{Program, noStmt}
 use Rattle.tree.specs.Ans.{given}

@@ -1,8 +1,8 @@
 -- The listing as it grows: each diagnostic's lines are stored where the buffer has room. After one diagnostic more than the limit nothing
 -- is added: the call will be refused.
-use Prim.Native.Nat.{ℕ, zero, suc, _+_, _*_, _≤_}
+use Prim.Native.Nat.{ℕ, suc, _+_, _*_, _≤_}
 use mathlib.Core.List.{List, [], _∷_}
-use mathlib.Core.Bool.{Bool, true, false}
+use mathlib.Core.Bool.{true, false}
 use lib.ListN.{length}
 use lib.Seq.{sets}
 use lib.Dec.{leb}

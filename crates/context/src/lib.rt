@@ -2,6 +2,10 @@
 use ast::ClassicalType;
 use span::Span;
 use types::Typed;
+ghost use mathlib.Core.Path.{_≡_};
+ghost use Rattle.sema.specs.Messages.{aBit};
+ghost use Rattle.sema.specs.Operands.{fits};
+ghost use Rattle.context.specs.Values.{kindOf};
 
 // An Option of a number.
 pub enum Number {
@@ -29,6 +33,20 @@ pub enum SymbolKind {
     Const(ClassicalType),
     GateParam,
     GateQubit,
+}
+
+// What goes for a bit, and what an expression takes an index of.
+pub fn is_bit(kind: SymbolKind) -> bool
+    ensures { λ r. ⌜ r ≡ fits aBit (kindOf kind) ⌝ }
+{
+    match kind {
+        SymbolKind::Bit => true,
+        SymbolKind::Qubit => false,
+        SymbolKind::Classical(_) => false,
+        SymbolKind::Const(_) => false,
+        SymbolKind::GateParam => false,
+        SymbolKind::GateQubit => false,
+    }
 }
 
 pub struct Symbol {

@@ -13,7 +13,7 @@ use borrow.Author.Tests.{leb-true}
 use Rattle.ast.specs.Tree.{Text}
 use Rattle.tree.specs.Limits.{textsLimit, textLimit}
 use Rattle.tree.specs.Ans.{Ans, ok, _>>=_, _>>_, done, here, check, IsOk, nextOf}
-use Rattle.tree.specs.Read.{within, byte, bytes}
+use Rattle.tree.specs.Read.{within, bytes}
 use Rattle.tree.specs.Texts.{between, allowed, among, text, moreTexts, texts}
 use Rattle.tree.specs.Decode.{decode, textsOf}
 use Rattle.context.specs.View.{numberAt, textPlace, TextAt, TextsAt}

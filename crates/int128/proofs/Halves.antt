@@ -1,12 +1,11 @@
 -- Laws of magnitudes by their two words. Assumes nothing.
-use Prim.Native.Nat.{ℕ, zero, suc, _<_, _≤_, _+_, _-_, _*_, _/_, _%_}
-use mathlib.Core.Path.{_≡_, refl, sym, ap, _∙_}
-use mathlib.Core.Bool.{Bool, true, false, cond, not}
+use Prim.Native.Nat.{ℕ, _<_, _≤_, _+_, _-_, _*_, _/_, _%_}
+use mathlib.Core.Path.{_≡_, sym}
+use mathlib.Core.Bool.{true, false}
 use native.Mathlib.Omega.{arith}
 use native.Mathlib.Nat.{le-trans, le-div-iff-mul-le}
 use lib.Dec.{ltb, eqb}
 use borrow.Author.Tests.{lt-ltb, le-ltb, ne-eqb}
-use Rattle.int128.specs.declared.Magnitude.{Magnitude}
 use Rattle.int128.specs.declared.Magnitude.the-variants.{Fits, Over}
 use Rattle.int128.specs.Whole.{both, magnitudeOf}
 

@@ -1,11 +1,11 @@
 -- Laws of products by the halves of a word, and of words. Assumes nothing.
-use Prim.Native.Nat.{ℕ, zero, suc, _<_, _≤_, _+_, _-_, _*_, _/_, _%_}
+use Prim.Native.Nat.{ℕ, _<_, _≤_, _+_, _-_, _*_, _/_, _%_}
 use mathlib.Core.Path.{_≡_, refl, sym, ap, _∙_}
 use native.Mathlib.Omega.{arith}
-use native.Mathlib.Nat.{mul-le-mul, add-mul, mul-add, mul-assoc, mul-comm, mul-right-comm, le-trans}
+use native.Mathlib.Nat.{mul-le-mul, add-mul, mul-add, mul-assoc, mul-comm, mul-right-comm}
 use Rattle.int128.specs.declared.Magnitude.{Magnitude}
 use Rattle.int128.specs.declared.Magnitude.the-variants.{Fits, Over}
-use Rattle.int128.specs.Whole.{both, magnitude, magnitudeOf}
+use Rattle.int128.specs.Whole.{both, magnitudeOf}
 use Rattle.int128.proofs.Halves.{fits, over, word-max}
 
 small : (a b : ℕ) → a < 4294967296 → b < 4294967296 → a * b ≤ 18446744065119617025

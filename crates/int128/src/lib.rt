@@ -2,9 +2,9 @@
 ghost use mathlib.Core.Path.{_≡_};
 ghost use mathlib.Core.Bool.{false, not, xor};
 ghost use Prim.Native.Nat.{_≤_, _<_, _+_, _-_, _*_, _/_, _%_, _^_};
-ghost use lib.IntN.{pos, negℤ, _+ℤ_, _-ℤ_, _*ℤ_};
+ghost use lib.IntN.{negℤ, _+ℤ_, _-ℤ_, _*ℤ_};
 ghost use lib.Dec.{eqb, ltb};
-ghost use Rattle.int128.specs.Whole.{both, magnitude, magnitudeOf, signed, valueOf, int128, checked, divided, powered, positive, wordOf};
+ghost use Rattle.int128.specs.Whole.{magnitude, magnitudeOf, signed, valueOf, int128, checked, divided, powered, positive, wordOf};
 
 pub struct Int128 {
     pub neg: bool,

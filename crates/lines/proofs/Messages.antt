@@ -1,8 +1,8 @@
 -- What the plan of a message or a note says is its text, and its name is the one in it. Assumes nothing.
-use Prim.Native.Nat.{ℕ, _+_, _/_, _%_, _<_, _≤_}
-use mathlib.Core.Path.{_≡_, refl, sym, ap, _∙_}
+use Prim.Native.Nat.{ℕ, _+_, _/_, _%_, _<_}
+use mathlib.Core.Path.{_≡_, refl}
 use mathlib.Core.Bool.{Bool, true, false}
-use mathlib.Core.List.{List, [], _∷_, _++_, append-assoc, append-nil}
+use mathlib.Core.List.{List, [], _∷_, append-assoc}
 use mathlib.Core.Option.{Option, none, some}
 use native.Mathlib.Omega.{arith}
 use lib.Dec.{T, ltb}
@@ -11,6 +11,7 @@ use Rattle.ast.specs.Tree.{Text}
 use Rattle.ast.specs.declared.ClassicalType.{ClassicalType}
 use Rattle.text.specs.Text.{text, concat}
 use Rattle.text.specs.Decimal.{decimal}
+use Rattle.types.specs.Types.{numberOf as typeNumber}
 use Rattle.types.specs.Names.{nameOf}
 use Rattle.sema.specs.Messages.{messageText, messageParts, noteText, noteParts, nameAt, operandText, subscript, expectedName, kindName, contextName}
 use Rattle.sema.specs.Messages
@@ -25,10 +26,10 @@ use Rattle.lines.specs.declared.Note.{Note}
 use Rattle.lines.specs.declared.Plan.{Plan}
 use Rattle.lines.specs.Values.{expectedOf, messageOf, noteOf, nameIn, nameInNote, Below}
 use Rattle.lines.specs.Plans.{phrases, plans, phrase, wordAt, rowAt, pieceText, partText, joined, planText, hasName}
-use Rattle.lines.specs.Kinds.{typeWord, kindWord, expectedWord, operandBy, operandPlan, qubitsPlan, planOf, notePlan}
+use Rattle.lines.specs.Kinds.{kindWord, expectedWord, operandBy, operandPlan, qubitsPlan, planOf, notePlan}
 use Rattle.lines.proofs.Digits.{decimal-split}
 
-type-word : (ty : ClassicalType) → wordAt (typeWord ty) ≡ nameOf ty
+type-word : (ty : ClassicalType) → wordAt (typeNumber ty) ≡ nameOf ty
 unfolding wordAt phrase phrases nameOf
 type-word ClassicalType.Int = refl
 type-word ClassicalType.UInt = refl
@@ -36,7 +37,7 @@ type-word ClassicalType.Float = refl
 type-word ClassicalType.Angle = refl
 type-word ClassicalType.Bool = refl
 
-const-word : (ty : ClassicalType) → wordAt (5 + typeWord ty) ≡ concat (text "const " ∷ nameOf ty ∷ [])
+const-word : (ty : ClassicalType) → wordAt (5 + typeNumber ty) ≡ concat (text "const " ∷ nameOf ty ∷ [])
 unfolding wordAt phrase phrases nameOf
 const-word ClassicalType.Int = refl
 const-word ClassicalType.UInt = refl

@@ -1,6 +1,6 @@
 -- A number in one part or in two. Assumes nothing.
-use Prim.Native.Nat.{ℕ, _+_, _/_, _%_, _<_, _≤_}
-use mathlib.Core.Path.{_≡_, _∙_, sym}
+use Prim.Native.Nat.{ℕ, _/_, _%_, _<_, _≤_}
+use mathlib.Core.Path.{_≡_}
 use borrow.Author.Tests.{lt-ltb, le-ltb}
 use Rattle.lines.specs.declared.Plan.{Plan}
 use Rattle.lines.specs.Kinds.{numbered, qubitsPlan}

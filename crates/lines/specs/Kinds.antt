@@ -3,6 +3,7 @@ use Prim.Native.Nat.{ℕ, _+_, _/_, _%_}
 use mathlib.Core.Bool.{cond}
 use lib.Dec.{ltb}
 use Rattle.ast.specs.declared.ClassicalType.{ClassicalType}
+use Rattle.types.specs.Types.{numberOf}
 use Rattle.context.specs.declared.Number.{Number}
 use Rattle.context.specs.declared.Ends.{Ends}
 use Rattle.context.specs.declared.GateOperand.{GateOperand}
@@ -14,19 +15,12 @@ use Rattle.lines.specs.declared.Message.{Message}
 use Rattle.lines.specs.declared.Note.{Note}
 use Rattle.lines.specs.declared.Plan.{Plan}
 
--- the words, as numbers of phrases
-abbrev pub typeWord : ClassicalType → ℕ
-typeWord ClassicalType.Int = 0
-typeWord ClassicalType.UInt = 1
-typeWord ClassicalType.Float = 2
-typeWord ClassicalType.Angle = 3
-typeWord ClassicalType.Bool = 4
-
+-- the words, as numbers of phrases: the first are the types
 abbrev pub kindWord : SymbolKind → ℕ
 kindWord SymbolKind.Qubit = 10
 kindWord SymbolKind.Bit = 11
-kindWord (SymbolKind.Classical ty) = typeWord ty
-kindWord (SymbolKind.Const ty) = 5 + typeWord ty
+kindWord (SymbolKind.Classical ty) = numberOf ty
+kindWord (SymbolKind.Const ty) = 5 + numberOf ty
 kindWord SymbolKind.GateParam = 12
 kindWord SymbolKind.GateQubit = 13
 
@@ -88,8 +82,8 @@ planOf (Message.UsedIndex x i) = numbered 8 x i 0 0
 planOf (Message.Used op) = operandPlan 9 op
 planOf (Message.ConstWithoutInit x) = named 12 x
 planOf (Message.InputWithInit x) = named 13 x
-planOf (Message.CannotInitialize ty x a) = worded 14 x 0 (typeWord ty) (typeWord a)
-planOf (Message.CannotAssign a e x) = worded 15 x 0 (typeWord a) (typeWord e)
+planOf (Message.CannotInitialize ty x a) = worded 14 x 0 (numberOf ty) (numberOf a)
+planOf (Message.CannotAssign a e x) = worded 15 x 0 (numberOf a) (numberOf e)
 planOf Message.CompoundNumeric = plain 16
 planOf (Message.AssignToConst x) = named 17 x
 planOf (Message.NotAssignable x) = named 18 x
@@ -100,23 +94,36 @@ planOf Message.ParamsNumeric = plain 23
 planOf Message.Broadcasting = plain 24
 planOf (Message.GateAlreadyDefined x) = named 25 x
 planOf (Message.FunctionAlreadyDefined x) = named 26 x
-planOf (Message.FunctionReturns x r a) = worded 27 x 0 (typeWord r) (typeWord a)
+planOf (Message.FunctionReturns x r a) = worded 27 x 0 (numberOf r) (numberOf a)
 planOf (Message.MeasurementWidths a b) = numbered 28 0 a b 0
 planOf (Message.AlreadyMeasured op) = operandPlan 29 op
 planOf Message.DelayNumeric = plain 32
 planOf Message.ForVariable = plain 33
 planOf Message.ControlCount = plain 34
 planOf Message.PowerNumeric = plain 35
-planOf (Message.MustHaveType c e a) = worded (placeKind c) 0 0 (typeWord e) (typeWord a)
+planOf (Message.MustHaveType c e a) = worded (placeKind c) 0 0 (numberOf e) (numberOf a)
 planOf (Message.NotClassical x) = named 41 x
 planOf (Message.CannotIndexBit x) = named 42 x
 planOf (Message.NotIndexable x) = named 43 x
 planOf (Message.FunctionNotDefined x) = named 44 x
 planOf (Message.FunctionArguments x n got) = numbered 45 x n got 0
-planOf (Message.ArgumentType i x e a) = worded 46 x i (typeWord e) (typeWord a)
+planOf (Message.ArgumentType i x e a) = worded 46 x i (numberOf e) (numberOf a)
 planOf Message.NegationNumeric = plain 47
 planOf Message.ArithmeticNumeric = plain 48
 planOf Message.ComparisonTypes = plain 49
+
+-- the messages of types and expressions, whose kinds are those from 36 on
+pub data OfTypes : Message → Type 0 where
+  must-have-type : {c : Place} {e a : ClassicalType} → OfTypes (Message.MustHaveType c e a)
+  not-classical : {x : ℕ} → OfTypes (Message.NotClassical x)
+  cannot-index-bit : {x : ℕ} → OfTypes (Message.CannotIndexBit x)
+  not-indexable : {x : ℕ} → OfTypes (Message.NotIndexable x)
+  function-not-defined : {x : ℕ} → OfTypes (Message.FunctionNotDefined x)
+  function-arguments : {x n got : ℕ} → OfTypes (Message.FunctionArguments x n got)
+  argument-type : {i x : ℕ} {e a : ClassicalType} → OfTypes (Message.ArgumentType i x e a)
+  negation-numeric : OfTypes Message.NegationNumeric
+  arithmetic-numeric : OfTypes Message.ArithmeticNumeric
+  comparison-types : OfTypes Message.ComparisonTypes
 
 abbrev pub notePlan : Note → Plan
 notePlan (Note.FirstDeclared x) = named 50 x

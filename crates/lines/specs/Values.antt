@@ -1,5 +1,5 @@
 -- What a diagnostic of the code stands for, and the text numbers in it.
-use Prim.Native.Nat.{ℕ, suc, _+_, _<_}
+use Prim.Native.Nat.{ℕ, _+_, _<_}
 use mathlib.Core.Path.{_≡_}
 use mathlib.Core.List.{List}
 use Rattle.ast.specs.Tree.{Text}

@@ -12,7 +12,8 @@ use context::Number;
 use context::SymbolKind;
 ghost use mathlib.Core.Path.{_≡_};
 ghost use Prim.Native.Nat.{_<_, _+_};
-ghost use Rattle.lines.specs.Kinds.{typeWord, kindWord, expectedWord, letterByte, placeKind, numbered, worded, named, plain, operandPlan, qubitsPlan, planOf, notePlan};
+ghost use Rattle.types.specs.Types.{numberOf};
+ghost use Rattle.lines.specs.Kinds.{kindWord, expectedWord, letterByte, placeKind, numbered, worded, named, plain, operandPlan, qubitsPlan, planOf, notePlan, OfTypes};
 
 fn numbered(kind: usize, name: usize, first: u64, second: u64, third: u64) -> Plan
     ensures { λ r. ⌜ r ≡ numbered kind name first second third ⌝ }
@@ -54,26 +55,14 @@ fn plain(kind: usize) -> Plan
     named(kind, 0)
 }
 
-fn type_word(ty: ClassicalType) -> usize
-    ensures { λ r. ⌜ (r ≡ typeWord ty) × (r < 5) ⌝ }
-{
-    match ty {
-        ClassicalType::Int => 0,
-        ClassicalType::UInt => 1,
-        ClassicalType::Float => 2,
-        ClassicalType::Angle => 3,
-        ClassicalType::Bool => 4,
-    }
-}
-
 fn kind_word(kind: SymbolKind) -> usize
     ensures { λ r. ⌜ r ≡ kindWord kind ⌝ }
 {
     match kind {
         SymbolKind::Qubit => 10,
         SymbolKind::Bit => 11,
-        SymbolKind::Classical(ty) => type_word(ty),
-        SymbolKind::Const(ty) => 5 + type_word(ty),
+        SymbolKind::Classical(ty) => types::number(ty),
+        SymbolKind::Const(ty) => 5 + types::number(ty),
         SymbolKind::GateParam => 12,
         SymbolKind::GateQubit => 13,
     }
@@ -110,9 +99,9 @@ fn place_kind(place: Place) -> usize
 }
 
 fn typed(kind: usize, name: usize, first: u64, ty: ClassicalType, other: ClassicalType) -> Plan
-    ensures { λ r. ⌜ r ≡ worded kind name first (typeWord ty) (typeWord other) ⌝ }
+    ensures { λ r. ⌜ r ≡ worded kind name first (numberOf ty) (numberOf other) ⌝ }
 {
-    worded(kind, name, first, type_word(ty), type_word(other))
+    worded(kind, name, first, types::number(ty), types::number(other))
 }
 
 fn expected_plan(expected: Expected, name: usize, found: SymbolKind) -> Plan
@@ -128,7 +117,7 @@ fn declared_plan(name: usize, found: SymbolKind) -> Plan
 }
 
 fn required_plan(place: Place, expected: ClassicalType, actual: ClassicalType) -> Plan
-    ensures { λ r. ⌜ r ≡ worded (placeKind place) 0 0 (typeWord expected) (typeWord actual) ⌝ }
+    ensures { λ r. ⌜ r ≡ worded (placeKind place) 0 0 (numberOf expected) (numberOf actual) ⌝ }
 {
     typed(place_kind(place), 0, 0, expected, actual)
 }
@@ -169,6 +158,25 @@ fn qubits_plan(name: usize, total: u64, qubits: u64, got: u64) -> Plan
     )
 }
 
+// The messages of types and expressions.
+fn type_plan(message: Message) -> Plan
+    requires { ⌜ OfTypes message ⌝ }
+    ensures { λ r. ⌜ r ≡ planOf message ⌝ }
+{
+    match message {
+        Message::MustHaveType(c, e, a) => required_plan(c, e, a),
+        Message::NotClassical(x) => named(41, x),
+        Message::CannotIndexBit(x) => named(42, x),
+        Message::NotIndexable(x) => named(43, x),
+        Message::FunctionNotDefined(x) => named(44, x),
+        Message::FunctionArguments(x, n, got) => numbered(45, x, n, got, 0),
+        Message::ArgumentType(i, x, e, a) => typed(46, x, i, e, a),
+        Message::NegationNumeric => plain(47),
+        Message::ArithmeticNumeric => plain(48),
+        _ => plain(49), // ComparisonTypes
+    }
+}
+
 pub fn message_plan(message: Message) -> Plan
     ensures { λ r. ⌜ r ≡ planOf message ⌝ }
 {
@@ -204,16 +212,7 @@ pub fn message_plan(message: Message) -> Plan
         Message::ForVariable => plain(33),
         Message::ControlCount => plain(34),
         Message::PowerNumeric => plain(35),
-        Message::MustHaveType(c, e, a) => required_plan(c, e, a),
-        Message::NotClassical(x) => named(41, x),
-        Message::CannotIndexBit(x) => named(42, x),
-        Message::NotIndexable(x) => named(43, x),
-        Message::FunctionNotDefined(x) => named(44, x),
-        Message::FunctionArguments(x, n, got) => numbered(45, x, n, got, 0),
-        Message::ArgumentType(i, x, e, a) => typed(46, x, i, e, a),
-        Message::NegationNumeric => plain(47),
-        Message::ArithmeticNumeric => plain(48),
-        Message::ComparisonTypes => plain(49),
+        _ => type_plan(message),
     }
 }
 

@@ -1,6 +1,6 @@
 // The wording of the listing, where its phrases stand, and the parts of each plan.
 ghost use mathlib.Core.Path.{_≡_};
-ghost use Prim.Native.Nat.{ℕ, _<_};
+ghost use Prim.Native.Nat.{ℕ, _≤_, _<_};
 ghost use lib.ListN.{getD};
 ghost use Rattle.lines.specs.Plans.{rowAt, noPart};
 
@@ -144,8 +144,9 @@ const THIRD: u8 = 205;
 
 const NONE: u8 = 255;
 
-// The parts of a kind of plan, a phrase by its number. The kinds are those of specs/Kinds.antt.
-pub fn row_of(kind: usize) -> [u8; 9]
+// The rows of names and operands, initializers and assignments.
+fn name_row(kind: usize) -> [u8; 9]
+    requires { ⌜ kind < 19 ⌝ }
     ensures { λ r. ⌜ ((k : ℕ) → k < 9 → getD r k 0 ≡ getD (rowAt kind) k noPart) ⌝ }
 {
     match kind {
@@ -167,7 +168,16 @@ pub fn row_of(kind: usize) -> [u8; 9]
         15 => [44, WORD, 45, OTHER, 41, NAME, 14, NONE, NONE], // cannotAssign
         16 => [46, NONE, NONE, NONE, NONE, NONE, NONE, NONE, NONE], // compoundNumeric
         17 => [47, NAME, 14, NONE, NONE, NONE, NONE, NONE, NONE], // assignToConst
-        18 => [14, NAME, 48, NONE, NONE, NONE, NONE, NONE, NONE], // notAssignable
+        _ => [14, NAME, 48, NONE, NONE, NONE, NONE, NONE, NONE], // 18, notAssignable
+    }
+}
+
+// The rows of gates, functions, measurements, and what statements take.
+fn gate_row(kind: usize) -> [u8; 9]
+    requires { ⌜ (19 ≤ kind) × (kind < 36) ⌝ }
+    ensures { λ r. ⌜ ((k : ℕ) → k < 9 → getD r k 0 ≡ getD (rowAt kind) k noPart) ⌝ }
+{
+    match kind {
         19 => [49, NAME, 50, FIRST, 51, SECOND, NONE, NONE, NONE], // gateParams
         20 => [49, NAME, 50, FIRST, 52, SECOND, NONE, NONE, NONE], // gateQubits
         21 => [49, NAME, 50, FIRST, SECOND, 52, THIRD, NONE, NONE], // gateQubits, in two parts
@@ -184,7 +194,16 @@ pub fn row_of(kind: usize) -> [u8; 9]
         32 => [65, NONE, NONE, NONE, NONE, NONE, NONE, NONE, NONE], // delayNumeric
         33 => [66, NONE, NONE, NONE, NONE, NONE, NONE, NONE, NONE], // forVariable
         34 => [67, NONE, NONE, NONE, NONE, NONE, NONE, NONE, NONE], // controlCount
-        35 => [68, NONE, NONE, NONE, NONE, NONE, NONE, NONE, NONE], // powerNumeric
+        _ => [68, NONE, NONE, NONE, NONE, NONE, NONE, NONE, NONE], // 35, powerNumeric
+    }
+}
+
+// The rows of types and expressions.
+fn type_row(kind: usize) -> [u8; 9]
+    requires { ⌜ (36 ≤ kind) × (kind < 50) ⌝ }
+    ensures { λ r. ⌜ ((k : ℕ) → k < 9 → getD r k 0 ≡ getD (rowAt kind) k noPart) ⌝ }
+{
+    match kind {
         36 => [69, 70, WORD, 71, OTHER, NONE, NONE, NONE, NONE], // mustHaveType, ifCondition
         37 => [72, 70, WORD, 71, OTHER, NONE, NONE, NONE, NONE], // mustHaveType, whileCondition
         38 => [73, 70, WORD, 71, OTHER, NONE, NONE, NONE, NONE], // mustHaveType, rangeBound
@@ -198,7 +217,16 @@ pub fn row_of(kind: usize) -> [u8; 9]
         46 => [80, FIRST, 81, NAME, 82, WORD, 71, OTHER, NONE], // argumentType
         47 => [83, NONE, NONE, NONE, NONE, NONE, NONE, NONE, NONE], // negationNumeric
         48 => [84, NONE, NONE, NONE, NONE, NONE, NONE, NONE, NONE], // arithmeticNumeric
-        49 => [85, NONE, NONE, NONE, NONE, NONE, NONE, NONE, NONE], // comparisonTypes
+        _ => [85, NONE, NONE, NONE, NONE, NONE, NONE, NONE, NONE], // 49, comparisonTypes
+    }
+}
+
+// The rows of notes. No kind above them has one.
+fn note_row(kind: usize) -> [u8; 9]
+    requires { ⌜ 50 ≤ kind ⌝ }
+    ensures { λ r. ⌜ ((k : ℕ) → k < 9 → getD r k 0 ≡ getD (rowAt kind) k noPart) ⌝ }
+{
+    match kind {
         50 => [14, NAME, 86, NONE, NONE, NONE, NONE, NONE, NONE], // firstDeclared
         51 => [14, NAME, 87, WORD, 88, NONE, NONE, NONE, NONE], // declaredAs
         52 => [14, NAME, 89, FIRST, 88, NONE, NONE, NONE, NONE], // declaredWithSize
@@ -209,5 +237,17 @@ pub fn row_of(kind: usize) -> [u8; 9]
         57 => [94, NONE, NONE, NONE, NONE, NONE, NONE, NONE, NONE], // targetDeclared
         58 => [95, NONE, NONE, NONE, NONE, NONE, NONE, NONE, NONE], // functionDefined
         _ => [NONE; 9],
+    }
+}
+
+// The parts of a kind of plan, a phrase by its number. The kinds are those of specs/Kinds.antt.
+pub fn row_of(kind: usize) -> [u8; 9]
+    ensures { λ r. ⌜ ((k : ℕ) → k < 9 → getD r k 0 ≡ getD (rowAt kind) k noPart) ⌝ }
+{
+    match kind {
+        0..=18 => name_row(kind),
+        19..=35 => gate_row(kind),
+        36..=49 => type_row(kind),
+        _ => note_row(kind),
     }
 }

@@ -2,10 +2,8 @@
 use Prim.Native.Nat.{ℕ, zero, suc, _+_, _*_, _/_, _%_, _≤_, _<_, _-_}
 use mathlib.Core.Path.{_≡_, refl, sym, ap, _∙_}
 use mathlib.Core.List.{List, [], _∷_, _++_}
-use mathlib.Core.Bool.{Bool, true, false}
 use native.Mathlib.Omega.{arith}
 use native.Mathlib.Nat.{div-lt-self}
-use Rattle.text.specs.Text.{text}
 use Rattle.text.specs.Decimal.{front, decimal}
 use Rattle.span.specs.declared.Span.{Span}
 use Rattle.listing.specs.Listing.{spaced, spanLine}

@@ -3,9 +3,9 @@ use Prim.Native.Nat.{ℕ, zero, suc}
 use mathlib.Core.Path.{_≡_, refl}
 use mathlib.Core.List.{List, [], _∷_, _++_}
 use mathlib.Core.Option.{Option, none, some}
-use mathlib.Core.Bool.{Bool, true, false}
+use mathlib.Core.Bool.{Bool}
 use lib.ListN.{getD}
-use Rattle.text.specs.Text.{text, concat}
+use Rattle.text.specs.Text.{text}
 use Rattle.text.specs.Decimal.{decimal}
 use Rattle.span.specs.declared.Span.{Span}
 use Rattle.ast.specs.Tree.{Text, TextNumber, GateOperand}
@@ -13,7 +13,7 @@ use Rattle.ast.specs.declared.ClassicalType.{ClassicalType}
 use Rattle.types.specs.Names.{nameOf}
 use Rattle.sema.specs.Messages
 use Rattle.sema.specs.Messages.{Message, Note, Diagnostic, Severity, Error, Warning, SymbolKind, Expected, Context, nameAt, subscript, operandText, messageParts, noteParts, kindName, expectedName, contextName}
-use Rattle.listing.specs.Listing.{spaced, ended, letter, spanLine, noteLines, diagnosticLine, diagnosticLines, firstLine, listingOf, countOf}
+use Rattle.listing.specs.Listing.{spaced, letter, spanLine, noteLines, diagnosticLine, diagnosticLines, firstLine, listingOf, countOf}
 use Rattle.listing.specs.Cut.{linesOf, Clean, AllClean, cut-ended, clean-append, clean-concat, no10, word, clean-decimal}
 
 clean-type : (ty : ClassicalType) → Clean (nameOf ty)

@@ -2,7 +2,7 @@
 ghost use mathlib.Core.Path.{_≡_};
 ghost use mathlib.Core.Bool.{_&&_, _||_};
 ghost use lib.Dec.{leb, ltb};
-ghost use Rattle.sema.specs.Messages.{aQubit, aBit};
+ghost use Rattle.sema.specs.Messages.{aQubit};
 ghost use Rattle.sema.specs.Operands as sema;
 ghost use Rattle.context.specs.Values.{numberOf, endsOf, kindOf};
 ghost use Rattle.lines.specs.Values.{expectedOf};
@@ -76,26 +76,13 @@ fn is_qubit(kind: SymbolKind) -> bool
     }
 }
 
-fn is_bit(kind: SymbolKind) -> bool
-    ensures { λ r. ⌜ r ≡ sema.fits aBit (kindOf kind) ⌝ }
-{
-    match kind {
-        SymbolKind::Bit => true,
-        SymbolKind::Qubit => false,
-        SymbolKind::Classical(_) => false,
-        SymbolKind::Const(_) => false,
-        SymbolKind::GateParam => false,
-        SymbolKind::GateQubit => false,
-    }
-}
-
 // What goes for a qubit, and for a bit.
 pub fn fits(expected: Expected, kind: SymbolKind) -> bool
     ensures { λ r. ⌜ r ≡ sema.fits (expectedOf expected) (kindOf kind) ⌝ }
 {
     match expected {
         Expected::Qubit => is_qubit(kind),
-        Expected::Bit => is_bit(kind),
+        Expected::Bit => context::is_bit(kind),
     }
 }
 

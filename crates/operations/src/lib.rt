@@ -1,4 +1,4 @@
-// Gate calls, measurements, resets, barriers and delays over accepted bytes: cases of analyze_stmt.
+// Includes, gate calls, measurements, resets, barriers and delays over accepted bytes: cases of the Rust's analyze_stmt.
 mod calls;
 mod measures;
 

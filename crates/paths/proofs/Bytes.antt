@@ -1,8 +1,8 @@
 -- The theorem over bytes: in the listing of an accepted file, cut into lines at byte 10, there are as many lines `E start end use of
 -- qubit ..` with a span and a message as there are operand places whose error has both and that some path reaches with a covering mark
 -- standing. Assumes nothing.
-use Prim.Native.Nat.{ℕ, zero, suc}
-use mathlib.Core.Path.{_≡_, refl, sym, ap, _∙_, subst}
+use Prim.Native.Nat.{ℕ}
+use mathlib.Core.Path.{_≡_, refl, sym, ap, _∙_}
 use mathlib.Core.Bool.{Bool, true, false, cond}
 use mathlib.Core.Option.{Option, none, some}
 use mathlib.Core.List.{List, [], _∷_, _++_}

@@ -2,7 +2,7 @@
 use Prim.Native.Nat.{ℕ, suc}
 use mathlib.Core.List.{List, [], _∷_, _++_}
 use mathlib.Core.Option.{Option, none, some}
-use mathlib.Core.Bool.{Bool, true, false, cond, _&&_, _||_}
+use mathlib.Core.Bool.{Bool, false, cond, _&&_, _||_}
 use lib.ListN.{length}
 use lib.Dec.{eqb, ltb}
 use Rattle.span.specs.declared.Span.{Span}

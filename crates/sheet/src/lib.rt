@@ -154,7 +154,7 @@ fn nearer(i: u64, place: u16, best: Covered) -> Covered
     }
 }
 
-// The smallest index with number k among the keys, where that is one of the slice and has a place.
+// The smallest index so far, key number k taken in where it is of the slice and has a place.
 fn offered(index: &[u64], k: usize, x: usize, a: u64, b: u64, place: u16, best: Covered) -> Covered
     requires { ⌜ (length (now index) ≡ 768) × (k < 256) ⌝ }
     ensures { λ r. ⌜ r ≡ cond (eqb (keyAt (now (index .entry)) k .name) x && inSlice (a, b) (keyAt (now (index .entry)) k .index)) (offer (keyAt (now (index .entry)) k .index) place best) best ⌝ }

@@ -8,8 +8,7 @@ use native.Mathlib.Numerals.{add-one}
 use lib.ListN.{length, getD, set, take, drop, length-set}
 use lib.Seq.{drop-cons, set-comm, sets}
 use lib.Dec.{lit<}
-use Rattle.tree.specs.Ans.{done}
-use Rattle.tree.specs.Read.{value, number, bytes, within}
+use Rattle.tree.specs.Read.{value, within}
 use Rattle.tree.specs.Encode.{big}
 use Rattle.tree.proofs.Back.{length-big}
 use Rattle.context.specs.View.{numberAt}

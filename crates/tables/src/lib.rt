@@ -120,13 +120,7 @@ fn type_of(n: u8) -> ClassicalType
 fn type_number(ty: ClassicalType) -> u8
     ensures { λ r. ⌜ (r ≡ numberOf ty) × (r < 5) ⌝ }
 {
-    match ty {
-        ClassicalType::Int => 0,
-        ClassicalType::UInt => 1,
-        ClassicalType::Float => 2,
-        ClassicalType::Angle => 3,
-        ClassicalType::Bool => 4,
-    }
+    types::number(ty) as u8
 }
 
 // The kind with a code. No code above 14 is ever stored.

@@ -1,18 +1,14 @@
 -- The texts of an accepted file hold bytes 33 to 126 alone.
-use Prim.Native.Nat.{ℕ, zero, suc, _+_, _≤_}
-use mathlib.Core.Path.{_≡_, refl, sym, ap, _∙_}
+use Prim.Native.Nat.{ℕ, zero, suc, _+_}
+use mathlib.Core.Path.{_≡_, refl, ap}
 use mathlib.Core.List.{List, [], _∷_, _++_}
-use mathlib.Core.Bool.{Bool, true, false, _&&_, not}
+use mathlib.Core.Bool.{Bool, true, false}
 use native.Mathlib.Omega.{arith}
 use lib.ListN.{length}
-use lib.Dec.{leb}
 use Rattle.ast.specs.Tree.{Text, Program}
-use Rattle.tree.specs.Limits.{textLimit, textsLimit, fileLimit, stmtLevels}
-use Rattle.tree.specs.Ans.{Ans, ok, refused, Reader, bind, _>>=_, _>>_, done, here, refuse, check}
-use Rattle.tree.specs.Read.{byte, bytes, u16}
-use Rattle.tree.specs.Texts.{between, allowed, among, text, moreTexts, texts}
-use Rattle.tree.specs.Stmts.{body, stmt}
-use Rattle.tree.specs.Decode.{size, nothingLeft, file, decode}
+use Rattle.tree.specs.Ans.{Ans, ok, refused, bind, _>>=_, _>>_, done, here, refuse, check}
+use Rattle.tree.specs.Texts.{between, allowed, text, moreTexts, texts}
+use Rattle.tree.specs.Decode.{size, file, decode}
 
 -- a value came of two readers: the first gave one, and the second goes on from it
 pub record Came {A B : Type 0} (a : Ans A) (f : A → ℕ → Ans B) (b : B) (n : ℕ) : Type 0 where

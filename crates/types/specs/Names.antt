@@ -6,7 +6,6 @@ use Rattle.ast.specs.declared.ClassicalType.{ClassicalType}
 use Rattle.ast.specs.declared.ClassicalType.the-variants.{Int, UInt, Float, Angle}
 use Rattle.ast.specs.declared.ClassicalType.the-variants as type
 use Rattle.text.specs.Text.{text}
-use Rattle.types.specs.Types.{types}
 
 unfoldable pub nameOf : ClassicalType → List ℕ
 nameOf Int = text "int"

@@ -10,6 +10,8 @@ use Rattle.span.specs.declared.Span.{Span}
 use Rattle.ast.specs.Tree.{Text, Expr}
 use Rattle.ast.specs.declared.ClassicalType.{ClassicalType}
 use Rattle.sema.specs.Symbols.{Symbol as Declared, Symbols, FunctionSig, Table, get}
+use Rattle.sema.specs.Messages.{aBit}
+use Rattle.sema.specs.Operands.{fits}
 use Rattle.sema.specs.Exprs.{Typing, identType, bitIndexType, indexType, checkExpr}
 use Rattle.context.specs.declared.Sink.{Sink}
 use Rattle.context.specs.declared.Number.{Number}
@@ -20,7 +22,7 @@ use Rattle.context.specs.declared.Typing.{Typing as TypingValue}
 use Rattle.context.specs.Sink.{SinkFits}
 use Rattle.context.specs.Values.{kindOf, numberOf, symbolOf, foundOf}
 use Rattle.lines.specs.declared.Message.{Message}
-use Rattle.typing.specs.Checks.{Found, hasType, isBit}
+use Rattle.typing.specs.Checks.{Found, hasType}
 use Rattle.typing.proofs.Finds.{refused, found-typed}
 
 pub name-below : {x y n : ℕ} → x ≡ y → y < n → x < n
@@ -56,8 +58,8 @@ module _ {t : List Text} (x : ℕ) (sp : Span) {end : ℕ} {s : Sink} {o : List 
 
 -- a name with an index by its symbol
 module _ (x i : ℕ) (sp : Span) (v : Symbol) where
-  index-not : (k : SymbolKind) → isBit (kindOf k) ≡ false → indexType x i sp (symbolOf v) (kindOf k) ≡ refused (Message.NotIndexable x) sp
-  unfolding indexType
+  index-not : (k : SymbolKind) → fits aBit (kindOf k) ≡ false → indexType x i sp (symbolOf v) (kindOf k) ≡ refused (Message.NotIndexable x) sp
+  unfolding indexType fits
   index-not SymbolKind.Qubit e = refl
   index-not SymbolKind.Bit e = let y : _≡_ {A = ℕ} 0 1 = cc in absurd (omega arith)
   index-not (SymbolKind.Classical ty) e = refl
@@ -65,8 +67,8 @@ module _ (x i : ℕ) (sp : Span) (v : Symbol) where
   index-not SymbolKind.GateParam e = refl
   index-not SymbolKind.GateQubit e = refl
 
-  index-of : (k : SymbolKind) → isBit (kindOf k) ≡ true → indexType x i sp (symbolOf v) (kindOf k) ≡ bitIndexType x i sp (numberOf (v .size))
-  unfolding indexType
+  index-of : (k : SymbolKind) → fits aBit (kindOf k) ≡ true → indexType x i sp (symbolOf v) (kindOf k) ≡ bitIndexType x i sp (numberOf (v .size))
+  unfolding indexType fits
   index-of SymbolKind.Qubit e = let y : _≡_ {A = ℕ} 0 1 = cc in absurd (omega arith)
   index-of SymbolKind.Bit e = refl
   index-of (SymbolKind.Classical ty) e = let y : _≡_ {A = ℕ} 0 1 = cc in absurd (omega arith)
@@ -74,7 +76,7 @@ module _ (x i : ℕ) (sp : Span) (v : Symbol) where
   index-of SymbolKind.GateParam e = let y : _≡_ {A = ℕ} 0 1 = cc in absurd (omega arith)
   index-of SymbolKind.GateQubit e = let y : _≡_ {A = ℕ} 0 1 = cc in absurd (omega arith)
 
-  module _ {t : List Text} {end : ℕ} {s : Sink} {o : List ℕ} {r : TypingValue} {b : Bool} (is : b ≡ isBit (kindOf (v .kind))) where
+  module _ {t : List Text} {end : ℕ} {s : Sink} {o : List ℕ} {r : TypingValue} {b : Bool} (is : b ≡ fits aBit (kindOf (v .kind))) where
     pub index-other : {o′ : List ℕ} → b ≡ false → Found t (refused (Message.NotIndexable x) sp) end s o r o′ → Found t (indexType x i sp (symbolOf v) (kindOf (v .kind))) end s o r o′
     index-other e p = rw (index-not (v .kind) (sym is ∙ e)) p
 

@@ -1,7 +1,7 @@
 -- What the checks of expressions ask, and what the checks of their parts promise.
 use Prim.Native.Nat.{ℕ, suc, _≤_}
 use mathlib.Core.Path.{_≡_}
-use mathlib.Core.Bool.{Bool, true, false, _&&_, _||_}
+use mathlib.Core.Bool.{Bool, _&&_, _||_}
 use mathlib.Core.List.{List, [], _∷_}
 use mathlib.Core.Option.{Option, none, some}
 use lib.ListN.{length}
@@ -12,7 +12,7 @@ use Rattle.ast.specs.declared.ClassicalType.{ClassicalType}
 use Rattle.types.specs.declared.Typed.the-variants.{«Type»}
 use Rattle.types.specs.Types.{numberOf, numeric}
 use Rattle.sema.specs.Messages
-use Rattle.sema.specs.Messages.{Diagnostic, SymbolKind, Qubit, Bit, Classical, Const, GateParam, GateQubit, error, errorWithNote}
+use Rattle.sema.specs.Messages.{Diagnostic, error, errorWithNote}
 use Rattle.sema.specs.Symbols.{FunctionSig}
 use Rattle.sema.specs.Operands.{unless}
 use Rattle.sema.specs.Exprs.{Typing, mismatch}
@@ -39,15 +39,6 @@ pub record Found (t : List Text) (ty : Typing) (end : ℕ) (s : Sink) (o : List 
 -- a type and nothing said
 abbrev pub hasType : ClassicalType → ℕ → Sink → TypingValue
 hasType ty next s = record { typed = «Type» ty; next = next; sink = s }
-
--- only a bit has an index
-abbrev pub isBit : SymbolKind → Bool
-isBit Qubit = false
-isBit Bit = true
-isBit (Classical ty) = false
-isBit (Const ty) = false
-isBit GateParam = false
-isBit GateQubit = false
 
 -- types that a comparison takes
 abbrev pub comparable : ClassicalType → ClassicalType → Bool

@@ -24,7 +24,7 @@ ghost use Rattle.context.specs.Sink.{SinkFits};
 ghost use Rattle.context.specs.Values.{kindOf, symbolOf, typedOf};
 ghost use Rattle.context.specs.View.{TextsAt, numberAt, spanAt, scopesOf, functionsOf};
 ghost use Rattle.lines.specs.Values.{Below, nameIn, diagnosticOf, errorOf};
-ghost use Rattle.typing.specs.Checks.{Checkable, Found, hasType, isBit, comparable};
+ghost use Rattle.typing.specs.Checks.{Checkable, Found, hasType, comparable};
 
 pub fn has_type(ty: ClassicalType, next: usize, sink: Sink) -> Typing
     ensures { λ r. ⌜ r ≡ hasType ty next sink ⌝ }
@@ -111,19 +111,6 @@ pub fn check_ident(
     ident_type(tree, index, out, x, span, kind, next, sink)
 }
 
-fn is_bit(kind: SymbolKind) -> bool
-    ensures { λ r. ⌜ r ≡ isBit (kindOf kind) ⌝ }
-{
-    match kind {
-        SymbolKind::Bit => true,
-        SymbolKind::Qubit => false,
-        SymbolKind::Classical(_) => false,
-        SymbolKind::Const(_) => false,
-        SymbolKind::GateParam => false,
-        SymbolKind::GateQubit => false,
-    }
-}
-
 // A name with an index, by its symbol.
 fn index_type(
     tree: &[u8],
@@ -140,7 +127,7 @@ fn index_type(
     ensures { λ r. ⌜ Found (textsOf (now (tree .entry))) (indexType x i span (symbolOf symbol) (kindOf (symbol .kind))) next sink (now (out .entry)) r (now (out .exit)) ⌝ }
 {
     let kind = symbol.kind;
-    if !is_bit(kind) {
+    if !context::is_bit(kind) {
         return refuse(tree, index, out, sink, Message::NotIndexable(x), span, next);
     }
     let size = symbol.size;

@@ -4,7 +4,6 @@ use mathlib.Core.Path.{_≡_}
 use mathlib.Core.List.{[], _∷_, _++_}
 use native.Mathlib.Omega.{arith}
 use lib.ListN.{length, length-append}
-use Rattle.text.specs.Text.{text}
 use Rattle.text.specs.Decimal.{front, decimal}
 use Rattle.listing.specs.Listing.{ended, spaced}
 use Rattle.verdict.specs.Verdict.{headOf}

@@ -1,27 +1,25 @@
 -- An `if`: its condition, its `then` body and its `else` make the walk over it. Assumes nothing.
 use Prim.Native.Nat.{ℕ, suc, _+_, _-_, _≤_, _<_}
 use mathlib.Core.Path.{_≡_, refl, sym, ap, subst, _∙_}
-use mathlib.Core.Logic.{_⊎_, inl, inr}
-use mathlib.Core.Bool.{true}
-use mathlib.Core.List.{List, [], _++_}
+use mathlib.Core.Logic.{inl, inr}
+use mathlib.Core.List.{List, []}
 use native.Mathlib.Omega.{arith}
 use lib.ListN.{length, getD}
 use Rattle.ast.specs.Tree.{Text, Expr, Stmt, Stmts, noStmt, Else, noElse}
 use Rattle.ast.specs.declared.ClassicalType.{ClassicalType}
-use Rattle.tree.specs.Ans.{ok, nextOf, given, IsOk}
+use Rattle.tree.specs.Ans.{ok, nextOf, IsOk}
 use Rattle.tree.specs.Stmts.{body, stmt, elseBody, held}
 use Rattle.tree.specs.Decode.{textsOf}
 use Rattle.sema.specs.Messages
-use Rattle.sema.specs.Symbols.{Symbols, empty}
+use Rattle.sema.specs.Symbols.{empty}
 use Rattle.sema.specs.Marks.{Key}
-use Rattle.sema.specs.Keys.{hasKey}
 use Rattle.sema.specs.KeyCount.{SetsElse}
 use Rattle.sema.specs.Exprs.{requireType}
 use Rattle.sema.specs.Stmts.{SemaContext, enter, analyzeStmt, analyzeStmts, analyzeElse}
 use Rattle.context.specs.declared.State.{State}
-use Rattle.context.specs.View.{Placed, spanAt, keysIn, scopesOf, functionsOf, marksOf, contextOf}
+use Rattle.context.specs.View.{spanAt, keysIn, scopesOf, functionsOf, contextOf}
 use Rattle.accepted.specs.Cases.{blank}
-use Rattle.accepted.specs.Parts.{valueOr, value-is, given-ok, next-is}
+use Rattle.accepted.specs.Parts.{valueOr, value-is, given-ok}
 use Rattle.accepted.specs.Bodies.{stmt-left}
 use Rattle.accepted.specs.Stmts.{branch-condition, branch-body, branch-else, branch-is, branch-inside}
 use Rattle.promises.specs.Emitted.{emitted-then, emitted-as}
@@ -29,7 +27,7 @@ use Rattle.promises.specs.Walks.{Ready, StmtKeyed, BodyKeyed, Walked, StmtWalke
 use Rattle.promises.specs.WalkLaws.{stmt-walked}
 use Rattle.bodies.specs.Opened.{ConditionOpened}
 use Rattle.walk.specs.Bodies.{ElseKeyed, walkElse}
-use Rattle.walk.proofs.Enclosed.{inner, opened-context, opened-below, ended-context, body-walked, else-same}
+use Rattle.walk.proofs.Enclosed.{opened-context, opened-below, ended-context, body-walked, else-same}
 use Rattle.walk.proofs.Cases.{inside-keyed}
 
 module _ (tree index : List ℕ) (keys left : ℕ) (st : State) (h : IsOk (stmt (textsOf tree) left tree (st .at))) (l : left ≤ 8) (b : getD tree (st .at) 0 ≡ 12) where

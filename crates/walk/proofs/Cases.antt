@@ -1,23 +1,21 @@
 -- The statements with a body: what each asks of its parts, and what they make together. Assumes nothing.
 use Prim.Native.Nat.{ℕ, suc, _+_, _-_, _≤_, _<_}
 use mathlib.Core.Path.{_≡_, refl, sym, ap, subst, _∙_}
-use mathlib.Core.Logic.{_⊎_, inl, inr}
 use mathlib.Core.Bool.{true}
 use mathlib.Core.List.{List, [], _∷_, _++_}
-use native.Mathlib.Omega.{arith}
 use lib.ListN.{length, getD}
 use Rattle.span.specs.declared.Span.{Span}
 use mathlib.Core.Option.{Option, none, some}
-use Rattle.ast.specs.Tree.{Text, Expr, ForRange, Stmt, Stmts, noStmt, Else, noElse, someElse}
+use Rattle.ast.specs.Tree.{Expr, ForRange, Stmt, Stmts, noStmt, noElse, someElse}
 use Rattle.ast.specs.declared.ClassicalType.{ClassicalType}
-use Rattle.tree.specs.Ans.{Ans, ok, nextOf, given, IsOk}
+use Rattle.tree.specs.Ans.{ok, nextOf, IsOk}
 use Rattle.tree.specs.Stmts.{body, stmt, elseBody, held, forRange}
 use Rattle.tree.specs.Decode.{textsOf}
 use Rattle.sema.specs.Messages
-use Rattle.sema.specs.Symbols.{Symbols, Scope, Table, GateSig, empty}
+use Rattle.sema.specs.Symbols.{Scope, Table, GateSig}
 use Rattle.sema.specs.Marks.{Key, unite, afterLoop}
 use Rattle.sema.specs.Keys.{hasKey}
-use Rattle.sema.specs.KeyCount.{SetsStmt, Sets, SetsElse}
+use Rattle.sema.specs.KeyCount.{Sets}
 use Rattle.sema.specs.Exprs.{requireType}
 use Rattle.sema.specs.Stmts.{SemaContext, analyzeStmt, analyzeStmts, analyzeElse, gateSays, rangeSays, stepSays}
 use Rattle.context.specs.declared.State.{State}
@@ -25,14 +23,14 @@ use Rattle.context.specs.View.{Placed, spanAt, typeOf, numberAt, keysIn, scopes
 use Rattle.accepted.specs.Cases.{blank, blankRange}
 use Rattle.accepted.specs.Parts.{valueOr, value-is, given-is, given-ok, next-is}
 use Rattle.accepted.specs.Bodies.{stmt-left, else-none, else-body, else-some}
-use Rattle.accepted.specs.Stmts.{gateDef-body, gateDef-is, gateDef-inside, branch-condition, branch-body, branch-else, branch-is, branch-inside, forLoop-range, forLoop-body, forLoop-is, forLoop-inside, whileLoop-condition, whileLoop-body, whileLoop-is, whileLoop-inside}
-use Rattle.promises.specs.Emitted.{emitted-none, emitted-then, emitted-as}
+use Rattle.accepted.specs.Stmts.{gateDef-body, gateDef-is, gateDef-inside, forLoop-range, forLoop-body, forLoop-is, forLoop-inside, whileLoop-condition, whileLoop-body, whileLoop-is, whileLoop-inside}
+use Rattle.promises.specs.Emitted.{emitted-none, emitted-as}
 use Rattle.promises.specs.Typings.{plainContext}
 use Rattle.promises.specs.Walks.{Ready, StmtKeyed, BodyKeyed, Walked, StmtWalked, BodyWalked}
 use Rattle.promises.specs.WalkLaws.{context-is, stmt-walked}
-use Rattle.bodies.specs.Opened.{Opened, gateQubits, gateBody, gateSpan, gateParams, gateQparams, forBody, forSpan, GateOpened, ConditionOpened, ForOpened, ElseOpened}
+use Rattle.bodies.specs.Opened.{Opened, gateBody, gateSpan, gateParams, gateQparams, forBody, forSpan, GateOpened, ConditionOpened, ForOpened, ElseOpened}
 use Rattle.walk.specs.Bodies.{ElseKeyed, walkElse}
-use Rattle.walk.proofs.Enclosed.{level, inner, enclosed, ended-marks, ended-context, body-walked, else-same}
+use Rattle.walk.proofs.Enclosed.{level, inner, enclosed, ended-marks, body-walked}
 
 -- the range of a `for` is checked by the symbols and the functions alone
 step-same : (c : SemaContext) (e : Option Expr) → stepSays (plainContext (c .symbols) (c .functions)) e ≡ stepSays c e

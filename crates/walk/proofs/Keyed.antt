@@ -1,18 +1,13 @@
 -- The keys that a statement's parts set are set by the statement. Assumes nothing.
-use Prim.Native.Nat.{ℕ, _-_, _<_}
-use mathlib.Core.Path.{_≡_, refl, sym, subst, _∙_}
-use mathlib.Core.Logic.{_⊎_, inl, inr}
-use mathlib.Core.Bool.{true}
-use mathlib.Core.List.{List, _∷_}
-use Rattle.ast.specs.Tree.{Text, Stmt, Stmts, noStmt, moreStmt, Else, noElse, someElse}
-use Rattle.tree.specs.Ans.{Ans, ok, nextOf, IsOk}
-use Rattle.tree.specs.Read.{repeat}
-use Rattle.tree.specs.Stmts.{stmt}
+use Prim.Native.Nat.{ℕ}
+use mathlib.Core.Path.{_≡_, sym, subst, _∙_}
+use mathlib.Core.Logic.{inl, inr}
+use mathlib.Core.List.{List}
+use Rattle.ast.specs.Tree.{Stmt, Stmts, noStmt, moreStmt}
+use Rattle.tree.specs.Ans.{Ans, ok}
 use Rattle.sema.specs.Symbols.{Symbols, after}
 use Rattle.sema.specs.Marks.{Key}
-use Rattle.sema.specs.Keys.{hasKey}
-use Rattle.sema.specs.KeyCount.{SetsStmt, Sets, SetsElse}
-use Rattle.sema.specs.Stmts.{SemaContext, analyzeStmt, analyzeStmts, analyzeElse}
+use Rattle.sema.specs.KeyCount.{SetsStmt, Sets}
 use Rattle.accepted.specs.Cases.{blankStmt}
 use Rattle.accepted.specs.Parts.{valueOr, value-is}
 use Rattle.promises.specs.Walks.{StmtKeyed, BodyKeyed}

@@ -12,16 +12,15 @@ use Rattle.tree.specs.Decode.{textsOf}
 use Rattle.sema.specs.Marks.{Key}
 use Rattle.sema.specs.Stmts.{SemaContext, analyzeStmt, analyzeStmts}
 use Rattle.context.specs.declared.State.{State}
-use Rattle.context.specs.Sink.{writtenOf, emit, SinkFits}
-use Rattle.context.specs.View.{Placed, numberAt, keysIn, scopesOf, functionsOf, contextOf}
-use Rattle.tables.specs.Tables.{tablesEnd, FewParams}
+use Rattle.context.specs.Sink.{writtenOf, emit}
+use Rattle.context.specs.View.{numberAt, keysIn, scopesOf, contextOf}
+use Rattle.tables.specs.Tables.{tablesEnd}
 use Rattle.lines.specs.EmitLaws.{emit-append, emit-none}
 use Rattle.accepted.specs.Cases.{blankStmt}
-use Rattle.accepted.specs.Parts.{valueOr, given-is, given-ok, next-is, is-ok}
+use Rattle.accepted.specs.Parts.{valueOr, given-is, given-ok, next-is}
 use Rattle.accepted.specs.Fields.{repeat-none}
 use Rattle.accepted.specs.Bodies.{body-is, body-held, stmts-first, stmts-rest, stmts-is}
-use Rattle.promises.specs.Emitted.{Emitted}
-use Rattle.promises.specs.Walks.{Ready, StmtKeyed, BodyKeyed, Walked, walkStmt, walkBody, StmtWalked, BodyWalked}
+use Rattle.promises.specs.Walks.{Ready, StmtKeyed, BodyKeyed, walkStmt, walkBody, StmtWalked, BodyWalked}
 use Rattle.sema.specs.LawsOnly.{symbols-after}
 use Rattle.walk.proofs.Keyed.{first-keyed, rest-keyed}
 

@@ -1,21 +1,15 @@
--- What the functions around a body ask and promise.
-use Prim.Native.Nat.{ℕ, suc, _-_, _≤_}
+-- What an `else` asks, and what the analysis makes of it.
+use Prim.Native.Nat.{ℕ}
 use mathlib.Core.Path.{_≡_}
 use mathlib.Core.Bool.{true}
 use mathlib.Core.List.{List, []}
-use lib.ListN.{length, drop}
 use Rattle.ast.specs.Tree.{Text, Else}
 use Rattle.tree.specs.Ans.{Ans, ok, given}
-use Rattle.sema.specs.Messages.{Diagnostic}
 use Rattle.sema.specs.Symbols.{Symbols}
 use Rattle.sema.specs.Marks.{Key}
 use Rattle.sema.specs.Keys.{hasKey}
 use Rattle.sema.specs.KeyCount.{SetsElse}
 use Rattle.sema.specs.Stmts.{SemaContext, analyzeElse}
-use Rattle.context.specs.declared.State.{State}
-use Rattle.context.specs.View.{scopesOf, functionsOf, contextOf}
-use Rattle.tables.specs.Tables.{tablesEnd, FewParams}
-use Rattle.promises.specs.Emitted.{Emitted}
 use Rattle.promises.specs.Walks.{Walk}
 
 -- every key that an `else` sets is in the table

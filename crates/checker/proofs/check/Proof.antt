@@ -1,6 +1,5 @@
 -- `checker::check` meets its contract. Assumes nothing.
 use native.Mathlib.Omega.{arith}
-use mathlib.Core.Path.{refl, sym, _∙_}
 use Rattle.checker.proofs.Judging.{call-short, call-judged, call-billed}
 use borrow.Author.Needs.{needs}
 use Rattle.checker.proofs.check.Statement.{statement}

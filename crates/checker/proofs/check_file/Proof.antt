@@ -1,6 +1,5 @@
 -- `checker::check_file` meets its contract. Assumes nothing.
-use native.Mathlib.Omega.{arith}
-use mathlib.Core.Path.{refl, sym, _∙_}
+use mathlib.Core.Path.{sym, _∙_}
 use Rattle.checker.proofs.Judging.{file-refused, file-accepted, judged-refused, judged-program}
 use borrow.Author.Needs.{needs}
 use Rattle.checker.proofs.check_file.Statement.{statement}

@@ -1,6 +1,6 @@
 -- `checker::check_program` meets its contract. Assumes nothing.
 use native.Mathlib.Omega.{arith}
-use mathlib.Core.Path.{refl, sym, _∙_}
+use mathlib.Core.Path.{refl}
 use Rattle.checker.proofs.Programs.{program-body}
 use Rattle.checker.proofs.Collecting.{program-many, program-room, program-keys, program-walkable, program-listed}
 use borrow.Author.Needs.{needs}

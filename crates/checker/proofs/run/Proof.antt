@@ -1,6 +1,6 @@
 -- `checker::run` meets its contract. Assumes nothing.
 use native.Mathlib.Omega.{arith}
-use mathlib.Core.Path.{refl, sym, _∙_}
+use mathlib.Core.Path.{refl}
 use Rattle.checker.proofs.Programs.{program-body, program-keyed, ready-new}
 use Rattle.checker.proofs.Runs.{ran}
 use Rattle.sheet.specs.Table.{length-keys}

@@ -1,6 +1,4 @@
 -- `checker::write` meets its contract. Assumes nothing.
-use native.Mathlib.Omega.{arith}
-use mathlib.Core.Path.{refl, sym, _∙_}
 use Rattle.checker.proofs.Judging.{listing-written}
 use Rattle.checker.proofs.Programs.{program-texts}
 use Rattle.verdict.proofs.Heads.{head-within}

@@ -1,7 +1,6 @@
 -- `sheet::either` meets its contract. Assumes nothing.
 use mathlib.Core.Path.{sym}
 use Rattle.sheet.specs.Places.{first-zero, first-some}
-use borrow.Author.Needs.{needs}
 use Rattle.sheet.proofs.either.Statement.{statement}
 use Rattle.sheet.proofs.either.Tie as tie
 

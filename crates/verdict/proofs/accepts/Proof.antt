@@ -1,5 +1,4 @@
 -- `verdict::accepts` meets its contract. Assumes nothing.
-use mathlib.Core.Path.{refl}
 use Rattle.verdict.specs.Verdict.{isAccepted}
 use borrow.Author.Needs.{needs}
 use Rattle.verdict.proofs.accepts.Statement.{statement}

@@ -1,7 +1,6 @@
 -- `verdict::judge` meets its contract. Assumes nothing.
 use native.Mathlib.Omega.{arith}
 use Rattle.verdict.proofs.Judging.{too-many, too-long, fine}
-use borrow.Author.Needs.{needs}
 use Rattle.verdict.proofs.judge.Statement.{statement}
 use Rattle.verdict.proofs.judge.Tie as tie
 

@@ -1,6 +1,5 @@
 -- `verdict::write_staged` meets its contract. Assumes nothing.
 use mathlib.Core.Path.{sym}
-use native.Mathlib.Omega.{arith}
 use lib.Seq.{length-take-le}
 use Rattle.verdict.proofs.Staging.{staged-room, staged-behind}
 use borrow.Author.Needs.{needs}

@@ -1,6 +1,5 @@
 -- `bodies::for_loops::for_parts` meets its contract. Assumes nothing.
 use native.Mathlib.Omega.{arith}
-use borrow.Author.Needs.{needs}
 use Rattle.accepted.specs.Bodies.{stmt-left}
 use Rattle.accepted.specs.Stmts.{forLoop-name-in, forLoop-range, forLoop-body, forLoop-inside}
 use Rattle.bodies.proofs.Loops.{range-in, parts-of}

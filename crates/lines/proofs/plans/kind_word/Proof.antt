@@ -9,9 +9,9 @@ kind-word-spec =
     (λ c. search needs)  -- enum-told
     (λ c. search needs)  -- enum-told-2
     (λ c. search needs)  -- enum-known-kind
-    (λ c κs. search needs)  -- type-word-requires
+    (λ c κs. search needs)  -- number-requires
     (λ c. search needs)  -- enum-known-kind-2
-    (λ c κs. search needs)  -- type-word-requires-2
+    (λ c κs. search needs)  -- number-requires-2
     (λ c. search needs)  -- add-result
     (λ c. search needs)  -- enum-told-3
     (λ c. search needs)  -- enum-told-4

@@ -1,5 +1,5 @@
 -- `lines::plans::message_plan` meets its contract. Assumes nothing.
-use Rattle.lines.proofs.Arms.{arm}
+use Rattle.lines.proofs.Arms.{arm, of-types}
 use Rattle.lines.specs.Kinds.{planOf}
 use borrow.Author.Needs.{needs}
 use Rattle.lines.proofs.plans.message_plan.Statement.{statement}
@@ -70,26 +70,7 @@ message-plan-spec =
     (λ c κs. search needs)  -- plain-requires-6
     (λ c. search needs)  -- enum-told-7
     (λ c κs. search needs)  -- plain-requires-7
-    (λ c. search needs)  -- enum-known-message-25
-    (λ c κs. search needs)  -- required-plan-requires
-    (λ c. search needs)  -- enum-known-message-26
-    (λ c κs. search needs)  -- named-requires-13
-    (λ c. search needs)  -- enum-known-message-27
-    (λ c κs. search needs)  -- named-requires-14
-    (λ c. search needs)  -- enum-known-message-28
-    (λ c κs. search needs)  -- named-requires-15
-    (λ c. search needs)  -- enum-known-message-29
-    (λ c κs. search needs)  -- named-requires-16
-    (λ c. search needs)  -- enum-known-message-30
-    (λ c κs. search needs)  -- numbered-requires-6
-    (λ c. search needs)  -- enum-known-message-31
-    (λ c κs. search needs)  -- typed-requires-4
-    (λ c. search needs)  -- enum-told-8
-    (λ c κs. search needs)  -- plain-requires-8
-    (λ c. search needs)  -- enum-told-9
-    (λ c κs. search needs)  -- plain-requires-9
-    (λ c. search needs)  -- enum-told-10
-    (λ c κs. search needs)  -- plain-requires-10
+    (λ c κs. of-types (c .match .keys32))  -- type-plan-requires
     (λ c. arm planOf (c .before .before .message .given .1) (c .named .ensures))  -- returns
     (λ c. arm planOf (c .before .before .message2 .given .1) (c .named2 .ensures))  -- returns-2
     (λ c. arm planOf (c .before .before .message3 .given .1) (c .expected-plan .ensures))  -- returns-3
@@ -121,13 +102,4 @@ message-plan-spec =
     (λ c. arm planOf (c .before .enum-told5 .given .1) (c .plain5 .ensures))  -- returns-29
     (λ c. arm planOf (c .before .enum-told6 .given .1) (c .plain6 .ensures))  -- returns-30
     (λ c. arm planOf (c .before .enum-told7 .given .1) (c .plain7 .ensures))  -- returns-31
-    (λ c. arm planOf (c .before .before .message25 .given .1) (c .required-plan .ensures))  -- returns-32
-    (λ c. arm planOf (c .before .before .message26 .given .1) (c .named13 .ensures))  -- returns-33
-    (λ c. arm planOf (c .before .before .message27 .given .1) (c .named14 .ensures))  -- returns-34
-    (λ c. arm planOf (c .before .before .message28 .given .1) (c .named15 .ensures))  -- returns-35
-    (λ c. arm planOf (c .before .before .message29 .given .1) (c .named16 .ensures))  -- returns-36
-    (λ c. arm planOf (c .before .before .message30 .given .1) (c .numbered6 .ensures))  -- returns-37
-    (λ c. arm planOf (c .before .before .message31 .given .1) (c .typed4 .ensures))  -- returns-38
-    (λ c. arm planOf (c .before .enum-told8 .given .1) (c .plain8 .ensures))  -- returns-39
-    (λ c. arm planOf (c .before .enum-told9 .given .1) (c .plain9 .ensures))  -- returns-40
-    (λ c. arm planOf (c .before .enum-told10 .given .1) (c .plain10 .ensures)))  -- returns-41
+    (λ c. c .type-plan .ensures))  -- returns-32

@@ -1,8 +1,8 @@
--- `operands::kinds::is_bit` meets its contract. Assumes nothing.
+-- `context::is_bit` meets its contract. Assumes nothing.
 use borrow.Author.Needs.{needs}
 use Rattle.sema.specs.Operands.{fits}
-use Rattle.operands.proofs.kinds.is_bit.Statement.{statement}
-use Rattle.operands.proofs.kinds.is_bit.Tie as tie
+use Rattle.context.proofs.is_bit.Statement.{statement}
+use Rattle.context.proofs.is_bit.Tie as tie
 
 pub is-bit-spec : {M : Type 1} → statement M
 unfolding fits
