@@ -15,6 +15,7 @@ use Rattle.sema.specs.Marks.{Key}
 use Rattle.sema.specs.Keys.{hasKey}
 use Rattle.sema.specs.KeyCount.{SetsStmt, Sets}
 use Rattle.sema.specs.Stmts.{SemaContext, analyzeStmt, analyzeStmts}
+use Rattle.context.specs.declared.Sink.{Sink}
 use Rattle.context.specs.declared.State.{State}
 use Rattle.context.specs.Sink.{SinkFits}
 use Rattle.context.specs.View.{TextsAt, Placed, keysIn, scopesOf, functionsOf, contextOf}
