@@ -6,7 +6,7 @@ ghost use Rattle.sema.specs.Operands.{indexSays, sliceSays, boundsSay};
 ghost use Rattle.context.specs.Sink.{SinkFits};
 ghost use Rattle.context.specs.Values.{numberOf, endsOf, operandOf, symbolOf};
 ghost use Rattle.context.specs.View.{TextsAt};
-ghost use Rattle.lines.specs.Values.{expectedOf};
+ghost use Rattle.lines.specs.Values.{expectedOf, errorWithNoteOf, Fits, Reported};
 ghost use Rattle.promises.specs.Emitted.{Emitted};
 ghost use Rattle.operands.specs.Says.{kindSays};
 use crate::kinds::fits;
@@ -22,6 +22,24 @@ use lines::Message;
 use lines::Note;
 use lines::error;
 use lines::error_with_note;
+
+// An error of an operand, with a note where its symbol is declared.
+fn report_declared(
+    tree: &[u8],
+    index: &[u64],
+    out: &mut [u8],
+    op: GateOperand,
+    symbol: Symbol,
+    message: Message,
+    note: Note,
+    sink: Sink,
+) -> Sink
+    requires { ⌜ TextsAt (now tree) (now index) × Fits (length (textsOf (now tree))) (errorWithNoteOf message (op .span) note (symbol .«decl_span»)) × SinkFits sink ⌝ }
+    ensures { λ r. ⌜ Reported (textsOf (now (tree .entry))) (errorWithNoteOf message (op .span) note (symbol .«decl_span»)) sink (now (out .entry)) r (now (out .exit)) ⌝ }
+{
+    let d = error_with_note(message, op.span, note, symbol.decl_span);
+    lines::report(out, sink, tree, index, d)
+}
 
 pub fn check_kind(
     tree: &[u8],
@@ -39,17 +57,15 @@ pub fn check_kind(
     if fits(expected, kind) {
         return sink;
     }
-    lines::report(
-        out,
-        sink,
+    report_declared(
         tree,
         index,
-        error_with_note(
-            Message::ExpectedKind(expected, op.name, kind),
-            op.span,
-            Note::DeclaredAs(op.name, kind),
-            symbol.decl_span,
-        ),
+        out,
+        op,
+        symbol,
+        Message::ExpectedKind(expected, op.name, kind),
+        Note::DeclaredAs(op.name, kind),
+        sink,
     )
 }
 
@@ -70,33 +86,29 @@ fn check_index(
     };
     let size = symbol.size;
     let Number::Some(n) = size else {
-        return lines::report(
-            out,
-            sink,
+        return report_declared(
             tree,
             index,
-            error_with_note(
-                Message::CannotIndex(op.name),
-                op.span,
-                Note::DeclaredWithoutSize(op.name),
-                symbol.decl_span,
-            ),
+            out,
+            op,
+            symbol,
+            Message::CannotIndex(op.name),
+            Note::DeclaredWithoutSize(op.name),
+            sink,
         );
     };
     if i < n {
         return sink;
     }
-    lines::report(
-        out,
-        sink,
+    report_declared(
         tree,
         index,
-        error_with_note(
-            Message::IndexOutOfBounds(i, op.name, n),
-            op.span,
-            Note::DeclaredWithSize(op.name, n),
-            symbol.decl_span,
-        ),
+        out,
+        op,
+        symbol,
+        Message::IndexOutOfBounds(i, op.name, n),
+        Note::DeclaredWithSize(op.name, n),
+        sink,
     )
 }
 
@@ -128,17 +140,15 @@ fn check_slice(
     if within(a, b, n) {
         return sink;
     }
-    lines::report(
-        out,
-        sink,
+    report_declared(
         tree,
         index,
-        error_with_note(
-            Message::SliceOutOfBounds(a, b, op.name, n),
-            op.span,
-            Note::DeclaredWithSize(op.name, n),
-            symbol.decl_span,
-        ),
+        out,
+        op,
+        symbol,
+        Message::SliceOutOfBounds(a, b, op.name, n),
+        Note::DeclaredWithSize(op.name, n),
+        sink,
     )
 }
 

@@ -3,7 +3,7 @@ use Prim.Native.Nat.{ℕ, _+_, _-_, _≤_, _<_}
 use mathlib.Core.Path.{_≡_, refl, sym, ap, _∙_}
 use mathlib.Core.List.{List, [], map}
 use mathlib.Core.Option.{none, some}
-use mathlib.Core.Bool.{Bool, true, false}
+use mathlib.Core.Bool.{Bool, true, false, _&&_}
 use native.Mathlib.Omega.{arith}
 use native.Mathlib.Nat.{add-comm}
 use lib.ListN.{getD}
@@ -25,7 +25,8 @@ use Rattle.lines.specs.declared.Message.{Message}
 use Rattle.lines.specs.declared.Secondary.{Secondary}
 use Rattle.lines.specs.declared.Diagnostic.{Diagnostic as DiagnosticValue}
 use Rattle.lines.specs.Values.{secondaryOf, errorOf, Reported}
-use Rattle.promises.specs.Emitted.{Emitted, emitted-one, emitted-as, unless-holds, unless-fails}
+use Rattle.promises.specs.Emitted.{Emitted, emitted-one, emitted-then, emitted-as, unless-holds, unless-fails}
+use Rattle.sheet.specs.Places.{both}
 use Rattle.operations.specs.declared.calls.Call.{Call}
 use Rattle.operations.specs.Calls.{noted, paramsBy, qubitsBy, arityBy, standardBy, standardOf, signatureBy}
 
@@ -39,6 +40,19 @@ rest-is args qubits controls l = go (eqb (args - qubits) controls) refl
     go : (b : Bool) → eqb (args - qubits) controls ≡ b → b ≡ eqb args (qubits + controls)
     go true e = let n = eqb-true (args - qubits) controls e in sym (eq-eqb args (qubits + controls) (omega arith))
     go false e = let n = eqb-false (args - qubits) controls e in sym (ne-eqb args (qubits + controls) (λ f. n (omega arith)))
+
+-- `fits_arity`
+module _ (c : Call) (params qubits : ℕ) where
+  pub arity-asked : (b : Bool) → c .params ≡ params → b ≡ eqb (c .args) (qubits + c .controls) → b ≡ (eqb (c .params) params && eqb (c .args) (qubits + c .controls))
+  arity-asked b e f = f ∙ rw (eq-eqb (c .params) params e)
+
+  pub arity-unlike : (c .params ≡ params → ⊥) → false ≡ (eqb (c .params) params && eqb (c .args) (qubits + c .controls))
+  arity-unlike e = rw (ne-eqb (c .params) params e)
+
+  pub arity-fits : {t : List Text} (decl : Secondary) {s : Sink} {o : List ℕ} (b : Bool) → b ≡ (eqb (c .params) params && eqb (c .args) (qubits + c .controls)) → b ≡ true → SinkFits s → Emitted t (arityBy c params qubits (secondaryOf decl)) s o s o
+  arity-fits decl b is e f =
+      let g = both (eqb (c .params) params) (eqb (c .args) (qubits + c .controls)) (sym is ∙ e) in
+      emitted-then (unless-holds _ _ (g .0) f) (unless-holds _ _ (g .1) f)
 
 module _ {t : List Text} (c : Call) (n : ℕ) (decl : Secondary) {s : Sink} {o : List ℕ} where
   pub params-fit : c .params ≡ n → SinkFits s → Emitted t (paramsBy c n (secondaryOf decl)) s o s o

@@ -1,5 +1,6 @@
 // What a gate call says.
 ghost use mathlib.Core.Path.{_≡_};
+ghost use mathlib.Core.Bool.{_&&_};
 ghost use mathlib.Core.List.{[], _++_};
 ghost use Prim.Native.Nat.{_+_, _≤_, _<_};
 ghost use lib.ListN.{length, getD};
@@ -151,8 +152,18 @@ fn check_qubit_count(
     lines::report(out, sink, tree, index, d)
 }
 
-// With a note where the gate is defined in the program.
-fn check_arity(
+// Are the parameters and the arguments as many as there should be?
+fn fits_arity(call: Call, params: usize, qubits: usize) -> bool
+    ensures { λ r. ⌜ r ≡ (eqb (call .params) params && eqb (call .args) (qubits + call .controls)) ⌝ }
+{
+    if call.params == params {
+        return is_arity(call.args, qubits, call.controls);
+    }
+    false
+}
+
+// The counts that are wrong. With a note where the gate is defined in the program.
+fn report_arity(
     tree: &[u8],
     index: &[u64],
     out: &mut [u8],
@@ -167,6 +178,26 @@ fn check_arity(
 {
     let s = check_param_count(tree, index, out, call, params, decl, sink);
     check_qubit_count(tree, index, out, call, qubits, decl, s)
+}
+
+// Most calls fit, and nothing is lent for them.
+fn check_arity(
+    tree: &[u8],
+    index: &[u64],
+    out: &mut [u8],
+    call: Call,
+    params: usize,
+    qubits: usize,
+    decl: Secondary,
+    sink: Sink,
+) -> Sink
+    requires { ⌜ TextsAt (now tree) (now index) × (call .name < length (textsOf (now tree))) × NoteBelow (length (textsOf (now tree))) decl × SinkFits sink ⌝ }
+    ensures { λ r. ⌜ Emitted (textsOf (now (tree .entry))) (arityBy call params qubits (secondaryOf decl)) sink (now (out .entry)) r (now (out .exit)) ⌝ }
+{
+    if fits_arity(call, params, qubits) {
+        return sink;
+    }
+    report_arity(tree, index, out, call, params, qubits, decl, sink)
 }
 
 // The text with a number, as a part of the tree.

@@ -12,12 +12,10 @@ check-index-spec =
     (λ c. search index-said)  -- returns
     (λ c. search needs)  -- enum-known-size
     (λ c. search needs)  -- enum-told-2
-    (λ c κs. search needs)  -- error-with-note-requires
-    (λ c κs. search reporting)  -- report-requires
+    (λ c κs. search reporting)  -- report-declared-requires
     (λ c. search needs)  -- same-length
     (λ c. search index-said)  -- returns-2
     (λ c. search index-said)  -- returns-3
-    (λ c κs. search needs)  -- error-with-note-requires-2
-    (λ c κs. search reporting)  -- report-requires-2
+    (λ c κs. search reporting)  -- report-declared-requires-2
     (λ c. search needs)  -- same-length-2
     (λ c. search index-said))  -- returns-4

@@ -9,7 +9,6 @@ check-kind-spec =
     tie.close (tie.spec
     (λ c κs. search needs)  -- fits-requires
     (λ c. search kind-said)  -- returns
-    (λ c κs. search needs)  -- error-with-note-requires
-    (λ c κs. search reporting)  -- report-requires
+    (λ c κs. search reporting)  -- report-declared-requires
     (λ c. search needs)  -- same-length
     (λ c. search kind-said))  -- returns-2

@@ -18,7 +18,6 @@ check-slice-spec =
     (λ c. search slice-said)  -- returns-2
     (λ c κs. search needs)  -- within-requires
     (λ c. search slice-said)  -- returns-3
-    (λ c κs. search needs)  -- error-with-note-requires
-    (λ c κs. search reporting)  -- report-requires-2
+    (λ c κs. search reporting)  -- report-declared-requires
     (λ c. search needs)  -- same-length-2
     (λ c. search slice-said))  -- returns-4

@@ -1,5 +1,5 @@
 -- `operations::calls::check_arity` meets its contract. Assumes nothing.
-use Rattle.promises.specs.Emitted.{emitted-then}
+use Rattle.operations.proofs.Arity.{arity-fits}
 use borrow.Author.Needs.{needs}
 use Rattle.operations.proofs.calls.check_arity.Statement.{statement}
 use Rattle.operations.proofs.calls.check_arity.Tie as tie
@@ -7,7 +7,8 @@ use Rattle.operations.proofs.calls.check_arity.Tie as tie
 pub check-arity-spec : {M : Type 1} → statement M
 check-arity-spec =
     tie.close (tie.spec
-    (λ c κs. search needs)  -- check-param-count-requires
-    (λ c κs. let p = c .before .before .before .before .before .before .before .before .pre in (p .0, p .1, p .2, c .before .before .before .check-param-count .ensures .fits))  -- check-qubit-count-requires
+    (λ c κs. search needs)  -- fits-arity-requires
+    (λ c. search arity-fits)  -- returns
+    (λ c κs. search needs)  -- report-arity-requires
     (λ c. search needs)  -- same-length
-    (λ c. emitted-then (c .before .before .before .before .before .before .check-param-count .ensures) (c .before .before .check-qubit-count .ensures)))  -- returns
+    (λ c. search needs))  -- returns-2
