@@ -16,3 +16,12 @@ two-bytes s at h p q =
     let j : at + 1 < length s = omega arith in
     let k : at + 1 + 1 ≤ length s = omega arith in
     halves 1 s at k (p ∙ sym (one-byte s at i)) (q ∙ sym (one-byte s (at + 1) j))
+
+pub four-bytes : (s : List ℕ) (at : ℕ) {a b c d : ℕ} → at + 4 ≤ length s → a ≡ getD s at 0 → b ≡ getD s (at + 1) 0 → c ≡ getD s (at + 2) 0 → d ≡ getD s (at + 3) 0 → a * 16777216 + b * 65536 + c * 256 + d ≡ numberAt 4 s at
+four-bytes s at {a} {b} {c} {d} h p q r t =
+    let e : at + 2 + 1 ≡ at + 3 = omega arith in
+    let high : a * 256 + b ≡ numberAt 2 s at = two-bytes s at (omega arith) p q in
+    let low : c * 256 + d ≡ numberAt 2 s (at + 2) = two-bytes s (at + 2) (omega arith) r (rw e t) in
+    let k : (a * 256 + b) * 65536 + (c * 256 + d) ≡ numberAt 4 s at = halves 2 s at (omega arith) high low in
+    let f : a * 16777216 + b * 65536 + c * 256 + d ≡ (a * 256 + b) * 65536 + (c * 256 + d) = omega arith in
+    f ∙ k

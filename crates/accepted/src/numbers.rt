@@ -11,6 +11,12 @@ pub fn wide(x: u8) -> usize
     x as usize
 }
 
+fn word(x: u8) -> u32
+    ensures { λ r. ⌜ (r ≡ x) × (r < 256) ⌝ }
+{
+    x as u32
+}
+
 pub fn byte_at(s: &[u8], at: usize) -> u8
     requires { ⌜ at < length (now s) ⌝ }
     ensures { λ r. ⌜ r ≡ getD (now (s .entry)) at 0 ⌝ }
@@ -25,11 +31,12 @@ pub fn u16_at(s: &[u8], at: usize) -> usize
     wide(s[at]) * 256 + wide(s[at + 1])
 }
 
+// In this form it is compiled to one load.
 pub fn u32_at(s: &[u8], at: usize) -> u32
     requires { ⌜ at + 4 ≤ length (now s) ⌝ }
     ensures { λ r. ⌜ r ≡ numberAt 4 (now (s .entry)) at ⌝ }
 {
-    (u16_at(s, at) * 65536 + u16_at(s, at + 2)) as u32
+    word(s[at]) * 16777216 + word(s[at + 1]) * 65536 + word(s[at + 2]) * 256 + word(s[at + 3])
 }
 
 pub fn u64_at(s: &[u8], at: usize) -> u64

@@ -1,53 +1,13 @@
--- Numbers in bytes: read forward and stored backward, one law for every width. Assumes nothing.
-use Prim.Native.Nat.{ℕ, suc, _+_, _-_, _*_, _/_, _%_, _^_, _≤_, _<_}
+-- Numbers stored in bytes, the last first: one law for every width. Assumes nothing.
+use Prim.Native.Nat.{ℕ, suc, _+_, _-_, _/_, _%_, _≤_, _<_}
 use mathlib.Core.Path.{_≡_, refl, sym, _∙_}
 use mathlib.Core.List.{List, [], _∷_, _++_}
 use native.Mathlib.Omega.{arith}
-use native.Mathlib.Nat.{add-zero, pow-succ', pow-le-pow-right}
-use native.Mathlib.Numerals.{add-one}
-use lib.ListN.{length, getD, set, take, drop, length-set}
-use lib.Seq.{drop-cons, set-comm, sets}
-use lib.Dec.{lit<}
-use Rattle.tree.specs.Read.{value, within}
+use native.Mathlib.Nat.{add-zero}
+use lib.ListN.{length, set, length-set}
+use lib.Seq.{set-comm, sets}
 use Rattle.tree.specs.Encode.{big}
 use Rattle.tree.proofs.Back.{length-big}
-use Rattle.context.specs.View.{numberAt}
-
--- i bytes of the number at a place are read
-pub record Reading (s : List ℕ) (at width v i : ℕ) : Type 0 where
-  pub within : i ≤ width
-  pub small : v < 256 ^ i
-  pub same : value v (take (width - i) (drop (at + i) s)) ≡ numberAt width s at
-
-pub reading-start : (s : List ℕ) (at width : ℕ) → Reading s at width 0 0
-reading-start s at width =
-    let e : width - 0 ≡ width = omega arith in
-    record { within = omega arith; small = omega arith; same = rw (e, add-zero at) }
-
-module _ {s : List ℕ} {at width v i : ℕ} (r : Reading s at width v i) where
-  pub reading-room : i < width → width ≤ 8 → v < 72057594037927936
-  reading-room h k =
-      let p : 256 ^ i ≤ 256 ^ 7 = pow-le-pow-right (lit< tt) {i = i} {j = 7} (omega arith) in
-      omega (arith, r .small, p)
-
-  pub reading-more : (b : ℕ) → i < width → at + width ≤ length s → b ≡ getD s (at + i) 0 → b < 256 → Reading s at width (v * 256 + b) (i + 1)
-  unfolding value
-  reading-more b h room e l =
-      let n : width - i ≡ suc (width - (i + 1)) = omega arith in
-      let k : suc (at + i) ≡ at + (i + 1) = omega arith in
-      let here : at + i < length s = omega arith in
-      record {
-        within = omega arith;
-        small = rw (add-one, pow-succ') (omega (arith, r .small));
-        same = rw (e, ← k) (rw (n, drop-cons s (at + i) 0 here) at (r .same));
-      }
-
-  pub reading-end : width ≤ i → (v ≡ numberAt width s at) × (v < 256 ^ width)
-  unfolding value
-  reading-end h =
-      let n : width - i ≡ 0 = omega arith in
-      let e : i ≡ width = omega (arith, r .within) in
-      (rw n at (r .same), rw e at (r .small))
 
 -- the last of some stores done first
 sets-snoc : (xs : List ℕ) (s : List ℕ) (at b : ℕ) → sets s at (xs ++ (b ∷ [])) ≡ sets (set s (at + length xs) b) at xs

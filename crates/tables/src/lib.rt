@@ -1,5 +1,8 @@
 // The symbols, gates and functions that a walk has met, as tables in the lent scratch. The layout is that of the context's views. The
 // walk lends a scratch of at least 65,536 bytes, names texts by numbers below 256, and has at most 9 scopes.
+use accepted::numbers::span_at;
+use accepted::numbers::u64_at;
+use accepted::numbers::wide;
 use ast::ClassicalType;
 use context::FoundFunction;
 use context::FoundGate;
@@ -11,7 +14,7 @@ use context::Symbol;
 use context::SymbolKind;
 use span::Span;
 ghost use mathlib.Core.Path.{_≡_};
-ghost use Prim.Native.Nat.{_+_, _-_, _*_, _^_, _≤_, _<_};
+ghost use Prim.Native.Nat.{_+_, _-_, _*_, _≤_, _<_};
 ghost use mathlib.Core.List.{[]};
 ghost use lib.ListN.{length, getD, set};
 ghost use lib.Seq.{sets};
@@ -22,7 +25,7 @@ ghost use Rattle.sema.specs.Messages.{Qubit};
 ghost use Rattle.sema.specs.Symbols.{get, getCurrent};
 ghost use Rattle.sema.specs.Marks.{sizeOf as sizeIn};
 ghost use Rattle.context.specs.Values.{kindOf, numberOf as sizeOf, symbolOf, foundOf, gateOf, foundGateOf};
-ghost use Rattle.context.specs.View.{numberAt, spanAt, typeOf, kinds, sizeBy, symbolAt, codePlace, symbolPlace, scopesOf, gatesOf, functionsOf};
+ghost use Rattle.context.specs.View.{numberAt, typeOf, kinds, sizeBy, symbolAt, codePlace, symbolPlace, scopesOf, gatesOf, functionsOf};
 ghost use Rattle.tables.specs.Entries.{SymbolFits, codeOf, spanBytes, sizeBytes, symbolBytes, gateBytes, typeBytes, functionBytes};
 ghost use Rattle.tables.specs.Tables.{Inserted, Entered, Begun, GateDefined, FunctionDefined, briefOf, paramsOf, FewParams, functionIn, cleared};
 
@@ -44,26 +47,6 @@ const FUNCTION: usize = 27;
 // The bytes of the gates and the functions.
 const SIGNATURES: usize = 9728;
 
-fn wide(x: u8) -> u64
-    ensures { λ r. ⌜ (r ≡ x) × (r < 256) ⌝ }
-{
-    x as u64
-}
-
-// The number in so many bytes at a place.
-fn number(s: &[u8], at: usize, width: usize) -> u64
-    requires { ⌜ (width ≤ 8) × (at + width ≤ length (now s)) ⌝ }
-    ensures { λ r. ⌜ (r ≡ numberAt width (now (s .entry)) at) × (r < 256 ^ width) ⌝ }
-{
-    let mut v: u64 = 0;
-    let mut i = 0;
-    while i < width {
-        v = v * 256 + wide(s[at + i]);
-        i += 1;
-    }
-    v
-}
-
 // Stores a number in so many bytes, the last byte first.
 fn store(s: &mut [u8], at: usize, width: usize, v: u64)
     requires { ⌜ at + width ≤ length (now s) ⌝ }
@@ -83,18 +66,6 @@ fn put(s: &mut [u8], at: usize, b: u8)
     ensures { λ _. ⌜ now (s .exit) ≡ set (now (s .entry)) at b ⌝ }
 {
     s[at] = b;
-}
-
-fn span_at(s: &[u8], at: usize) -> Span
-    requires { ⌜ at + 8 ≤ length (now s) ⌝ }
-    ensures { λ r. ⌜ r ≡ spanAt (now (s .entry)) at ⌝ }
-{
-    let start = number(s, at, 4);
-    let end = number(s, at + 4, 4);
-    Span {
-        start: start as u32,
-        end: end as u32,
-    }
 }
 
 fn store_span(s: &mut [u8], at: usize, sp: Span)
@@ -169,7 +140,7 @@ fn size_at(s: &[u8], at: usize) -> Number
     if s[at] == 0 {
         return Number::None;
     }
-    Number::Some(number(s, at + 1, 8))
+    Number::Some(u64_at(s, at + 1))
 }
 
 fn store_size(s: &mut [u8], at: usize, size: Number)
@@ -290,8 +261,8 @@ pub fn gate(scratch: &[u8], x: usize) -> FoundGate
     let qubits = wide(scratch[at + 2]);
     let decl_span = span_at(scratch, at + 3);
     FoundGate::Some(GateSig {
-        param_count: params as usize,
-        qubit_count: qubits as usize,
+        param_count: params,
+        qubit_count: qubits,
         decl_span,
     })
 }
@@ -327,7 +298,7 @@ pub fn function(scratch: &[u8], x: usize) -> FoundFunction
     let count = wide(scratch[at + 2]);
     let decl_span = span_at(scratch, at + 3);
     FoundFunction::Some(FunctionSig {
-        param_count: count as usize,
+        param_count: count,
         return_type,
         decl_span,
     })

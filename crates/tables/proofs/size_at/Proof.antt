@@ -9,6 +9,6 @@ size-at-spec =
     tie.close (tie.spec
     (λ c. search needs)  -- shared-slice-read-if1
     (λ c. search size-none)  -- returns
-    (λ c. search needs)  -- add-number
-    (λ c κs. search needs)  -- number-requires
+    (λ c. search needs)  -- add-u64-at
+    (λ c κs. search needs)  -- u64-at-requires
     (λ c. search size-some))  -- returns-2

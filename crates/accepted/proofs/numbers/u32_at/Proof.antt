@@ -1,17 +1,27 @@
 -- `accepted::numbers::u32_at` meets its contract. Assumes nothing.
-use native.Mathlib.Omega.{arith}
 use borrow.Author.Needs.{needs}
-use Rattle.accepted.proofs.Halves.{halves}
+use Rattle.accepted.proofs.Halves.{four-bytes}
 use Rattle.accepted.proofs.numbers.u32_at.Statement.{statement}
 use Rattle.accepted.proofs.numbers.u32_at.Tie as tie
 
 pub u32-at-spec : {M : Type 1} → statement M
 u32-at-spec =
     tie.close (tie.spec
-    (λ c κs. search needs)  -- u16-at-requires
+    (λ c. search needs)  -- shared-slice-read-word
+    (λ c κs. search needs)  -- word-requires
     (λ c. search needs)  -- mul-result
-    (λ c. search needs)  -- add-u16-at
-    (λ c κs. search needs)  -- u16-at-requires-2
+    (λ c. search needs)  -- add-word
+    (λ c. search needs)  -- shared-slice-read-word-2
+    (λ c κs. search needs)  -- word-requires-2
+    (λ c. search needs)  -- mul-result-2
     (λ c. search needs)  -- add-result
-    (λ c. search needs)  -- cast-result
-    (λ c. let a = c .before .before .before .args in halves 2 (a .s .now) (a .at) (omega arith) (c .before .u16-at .ensures .0) (c .u16-at2 .ensures .0)))  -- returns
+    (λ c. search needs)  -- add-word-2
+    (λ c. search needs)  -- shared-slice-read-word-3
+    (λ c κs. search needs)  -- word-requires-3
+    (λ c. search needs)  -- mul-result-3
+    (λ c. search needs)  -- add-result-2
+    (λ c. search needs)  -- add-word-3
+    (λ c. search needs)  -- shared-slice-read-word-4
+    (λ c κs. search needs)  -- word-requires-4
+    (λ c. search needs)  -- add-result-3
+    (λ c. search four-bytes))  -- returns
