@@ -78,7 +78,3 @@ ForOpened tree left st s o r s′ o′ =
     Opened (textsOf tree) (9 - left) (loopScope (numberAt 2 tree (st .at + 1)) (typeOf (getD tree (st .at + 3) 0)) (forSpan tree left (st .at))) (gatesOf s)
     (given [] (λ range. rangeSays (plainContext (scopesOf s (9 - left)) (functionsOf s)) (typeOf (getD tree (st .at + 3) 0)) range (forSpan tree left (st .at))) (forRange (textsOf tree) tree (st .at + 4)))
     (forBody tree left (st .at)) st s o r s′ o′
-
--- the body of an `else`, behind its byte
-abbrev pub ElseOpened : List Text → ℕ → State → List ℕ → List ℕ → State → List ℕ → List ℕ → Type 0
-ElseOpened t left st s o r s′ o′ = Opened t (9 - left) empty (gatesOf s) [] (st .at + 1) st s o r s′ o′

@@ -41,7 +41,7 @@ pub record JudgedFile (tree s l : List ℕ) (r : AnswerValue) (s′ l′ : List 
 abbrev pub sinkAt : ℕ → Sink
 sinkAt n = record { n = n; errors = 0; warnings = 0 }
 
--- one run of the walk from a cleared scratch: the diagnostics of the program behind n bytes
+-- one run of the walk from its beginning: the diagnostics of the program behind n bytes
 pub record Ran (p : Program) (n : ℕ) (s o : List ℕ) (r : Sink) (s′ o′ : List ℕ) : Type 0 where
   pub emitted : Emitted (p .texts) (analyze p) (sinkAt n) o r o′
   pub scratch : SameRest s s′

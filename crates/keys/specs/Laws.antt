@@ -1,4 +1,4 @@
--- What the caller takes from the promise: from a cleared scratch and no keys, the keys of the whole program. Assumes nothing.
+-- What the caller takes from the promise: from one empty scope and no keys, the keys of the whole program. Assumes nothing.
 use Prim.Native.Nat.{ℕ}
 use mathlib.Core.Path.{_≡_, _∙_}
 use mathlib.Core.List.{List, [], _∷_}

@@ -180,7 +180,7 @@ fn report_arity(
     check_qubit_count(tree, index, out, call, qubits, decl, s)
 }
 
-// Most calls fit, and nothing is lent for them.
+// Most calls fit, and nothing more is asked.
 fn check_arity(
     tree: &[u8],
     index: &[u64],

@@ -59,7 +59,7 @@ paramsOf (some f) = f .params
 abbrev pub mostParams : ℕ
 mostParams = 16
 
--- no function has more parameters: so it is in a cleared scratch, and after each definition from a tree
+-- no function has more parameters: so it is where a walk begins, and after each definition from a tree
 pub record FewParams (t : Table FunctionSig) : Type 0 where
   pub few : (x : ℕ) → length (paramsOf (t x)) ≤ mostParams
 

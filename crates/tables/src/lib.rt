@@ -366,7 +366,7 @@ pub fn begin(scratch: &mut [u8])
     }
 }
 
-// After a walk.
+// After a call.
 pub fn clear(scratch: &mut [u8])
     requires { ⌜ 65536 ≤ length (now scratch) ⌝ }
     ensures { λ _. ⌜ now (scratch .exit) ≡ cleared (now (scratch .entry)) ⌝ }

@@ -28,8 +28,8 @@ use Rattle.promises.specs.Emitted.{emitted-none, emitted-as}
 use Rattle.promises.specs.Typings.{plainContext}
 use Rattle.promises.specs.Walks.{Ready, StmtKeyed, BodyKeyed, Walked, StmtWalked, BodyWalked}
 use Rattle.promises.specs.WalkLaws.{context-is, stmt-walked}
-use Rattle.bodies.specs.Opened.{Opened, gateBody, gateSpan, gateParams, gateQparams, forBody, forSpan, GateOpened, ConditionOpened, ForOpened, ElseOpened}
-use Rattle.walk.specs.Bodies.{ElseKeyed, walkElse}
+use Rattle.bodies.specs.Opened.{Opened, gateBody, gateSpan, gateParams, gateQparams, forBody, forSpan, GateOpened, ConditionOpened, ForOpened}
+use Rattle.walk.specs.Bodies.{ElseKeyed, walkElse, ElseOpened}
 use Rattle.walk.proofs.Enclosed.{level, inner, enclosed, ended-marks, body-walked}
 
 -- the range of a `for` is checked by the symbols and the functions alone

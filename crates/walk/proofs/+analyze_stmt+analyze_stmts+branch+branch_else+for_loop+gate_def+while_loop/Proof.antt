@@ -11,7 +11,7 @@ use Rattle.context.specs.View.{keysIn}
 use Rattle.promises.specs.Emitted.{emitted-none}
 use Rattle.promises.specs.Walks.{stateOf}
 use Rattle.operations.specs.Operations.{isOperation, no-operation}
-use Rattle.bodies.specs.Opened.{ElseOpened}
+use Rattle.walk.specs.Bodies.{ElseOpened}
 use Rattle.accepted.specs.Bodies.{body-in, else-in, stmt-in, stmt-below, stmt-left}
 use Rattle.walk.proofs.Loop.{Going, ready-as, going-as, going-start, going-stmt, going-keyed, going-more, going-end}
 use Rattle.walk.proofs.Enclosed.{opened-ready}
