@@ -6,7 +6,7 @@ use native.Mathlib.Omega.{arith}
 use native.Mathlib.Nat.{pow-zero, pow-suc, add-mul, mul-assoc, mul-comm}
 use lib.ListN.{length, getD, take, drop, length-take, length-drop}
 use lib.Seq.{take-add, drop-drop, drop-cons}
-use Rattle.tree.specs.Read.{value}
+use Rattle.text.specs.Big.{value}
 use Rattle.context.specs.View.{numberAt}
 
 value-join : (high : ℕ) (xs ys : List ℕ) → value high (xs ++ ys) ≡ value (value high xs) ys

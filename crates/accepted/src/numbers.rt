@@ -17,7 +17,7 @@ fn word(x: u8) -> u32
     x as u32
 }
 
-pub fn byte_at(s: &[u8], at: usize) -> u8
+pub(crate) fn byte_at(s: &[u8], at: usize) -> u8
     requires { ⌜ at < length (now s) ⌝ }
     ensures { λ r. ⌜ r ≡ getD (now (s .entry)) at 0 ⌝ }
 {
@@ -32,7 +32,7 @@ pub fn u16_at(s: &[u8], at: usize) -> usize
 }
 
 // In this form it is compiled to one load.
-pub fn u32_at(s: &[u8], at: usize) -> u32
+fn u32_at(s: &[u8], at: usize) -> u32
     requires { ⌜ at + 4 ≤ length (now s) ⌝ }
     ensures { λ r. ⌜ r ≡ numberAt 4 (now (s .entry)) at ⌝ }
 {

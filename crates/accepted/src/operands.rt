@@ -51,7 +51,7 @@ pub fn number_at(s: &[u8], at: usize) -> ReadNumber
 }
 
 // An Option of a slice.
-pub fn ends_at(s: &[u8], at: usize) -> ReadEnds
+fn ends_at(s: &[u8], at: usize) -> ReadEnds
     requires { ⌜ IsOk (option slice (now s) at) ⌝ }
     ensures { λ r. ⌜ option slice (now (s .entry)) at ≡ ok (endsOf (r .ends)) (r .next) ⌝ }
 {

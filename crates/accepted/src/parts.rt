@@ -24,7 +24,7 @@ fn skip_option(s: &[u8], at: usize, size: usize) -> usize
 }
 
 // Past an Option of a number.
-pub fn skip_number(s: &[u8], at: usize) -> usize
+pub(crate) fn skip_number(s: &[u8], at: usize) -> usize
     requires { ⌜ IsOk (option u64 (now s) at) ⌝ }
     ensures { λ r. ⌜ r ≡ nextOf (option u64 (now (s .entry)) at) ⌝ }
 {
@@ -32,7 +32,7 @@ pub fn skip_number(s: &[u8], at: usize) -> usize
 }
 
 // Past an Option of a slice.
-pub fn skip_ends(s: &[u8], at: usize) -> usize
+fn skip_ends(s: &[u8], at: usize) -> usize
     requires { ⌜ IsOk (option slice (now s) at) ⌝ }
     ensures { λ r. ⌜ r ≡ nextOf (option slice (now (s .entry)) at) ⌝ }
 {
@@ -94,7 +94,7 @@ pub fn skip_operands(s: &[u8], at: usize) -> usize
     k
 }
 
-pub fn skip_modifier(s: &[u8], at: usize) -> usize
+fn skip_modifier(s: &[u8], at: usize) -> usize
     requires { ⌜ IsOk (modifier (textsOf (now s)) (now s) at) ⌝ }
     ensures { λ r. ⌜ r ≡ nextOf (modifier (textsOf (now (s .entry))) (now (s .entry)) at) ⌝ }
 {
@@ -105,7 +105,7 @@ pub fn skip_modifier(s: &[u8], at: usize) -> usize
     }
 }
 
-pub fn skip_modifiers(s: &[u8], at: usize) -> usize
+pub(crate) fn skip_modifiers(s: &[u8], at: usize) -> usize
     requires { ⌜ IsOk (vec (modifier (textsOf (now s))) (now s) at) ⌝ }
     ensures { λ r. ⌜ r ≡ nextOf (vec (modifier (textsOf (now (s .entry)))) (now (s .entry)) at) ⌝ }
 {

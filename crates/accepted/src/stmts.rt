@@ -132,7 +132,7 @@ pub fn skip_body(s: &[u8], at: usize, left: usize) -> usize
 }
 
 // The place past the body of an `else`, where there is one.
-pub fn skip_else(s: &[u8], at: usize, left: usize) -> usize
+fn skip_else(s: &[u8], at: usize, left: usize) -> usize
     requires { ⌜ IsOk (elseBody (stmt (textsOf (now s)) left) (now s) at) ⌝ }
     ensures { λ r. ⌜ r ≡ nextOf (elseBody (stmt (textsOf (now (s .entry))) left) (now (s .entry)) at) ⌝ }
 {

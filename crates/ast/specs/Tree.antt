@@ -1,7 +1,7 @@
 -- The syntax tree of src/ast.rs: its cases, fields and names in its order, without `Spanned` and `version`.
 -- A name, a path or a float's spelling is the number of a text in the program's list of texts. A statement has its place first: where
 -- its case byte stands in the file.
-use Prim.Native.Nat.{ℕ}
+use Prim.Native.Nat.{ℕ, suc}
 use mathlib.Core.List.{List}
 use mathlib.Core.Option.{Option}
 use mathlib.Core.Bool.{Bool}
@@ -36,6 +36,11 @@ mutual
   pub data Exprs : Type 0 where
     noExpr : Exprs
     moreExpr : Expr → Exprs → Exprs
+
+-- how many there are
+unfoldable pub exprCount : Exprs → ℕ
+exprCount noExpr = 0
+exprCount (moreExpr e es) = suc (exprCount es)
 
 pub record GateOperand : Type 0 where
   pub name : TextNumber

@@ -4,7 +4,7 @@ use mathlib.Core.Path.{_≡_, sym, ap, subst}
 use mathlib.Core.List.{List, [], _∷_}
 use native.Mathlib.Omega.{arith}
 use lib.ListN.{length}
-use Rattle.text.proofs.Table.{true-of}
+use Rattle.text.proofs.Tests.{true-of}
 use Rattle.ast.specs.Tree.{Program, Stmts, noStmt}
 use Rattle.tree.specs.Ans.{IsOk, nextOf}
 use Rattle.tree.specs.Texts.{texts}

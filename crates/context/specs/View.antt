@@ -6,12 +6,12 @@ use mathlib.Core.Option.{Option, none, some}
 use mathlib.Core.Bool.{Bool, true, false, cond}
 use lib.ListN.{length, getD, take, drop}
 use lib.Dec.{ltb}
+use Rattle.text.specs.Big.{value}
 use Rattle.span.specs.declared.Span.{Span}
 use Rattle.ast.specs.Tree.{TextNumber, Stmt}
 use Rattle.ast.specs.declared.ClassicalType.{ClassicalType}
 use Rattle.text.specs.Text.{part}
 use Rattle.tree.specs.Ans.{IsOk, given}
-use Rattle.tree.specs.Read.{value}
 use Rattle.tree.specs.Stmts.{measure}
 use Rattle.tree.specs.Decode.{textsOf}
 use Rattle.sema.specs.Messages.{SymbolKind, Qubit, Bit, Classical, Const, GateParam, GateQubit}

@@ -2,7 +2,7 @@
 use Prim.Native.Nat.{ℕ, zero, suc, _<_}
 use mathlib.Core.Path.{_≡_, refl, sym, _∙_}
 use mathlib.Core.List.{List, [], _∷_}
-use mathlib.Core.Bool.{Bool, true, false, _&&_, _||_}
+use mathlib.Core.Bool.{Bool, true, false, _&&_, _||_, or-true}
 use native.Mathlib.Omega.{arith}
 use Rattle.span.specs.declared.Span.{Span}
 use Rattle.ast.specs.Tree.{Text}
@@ -44,10 +44,6 @@ refusal-below n k x m e l = rw e (by k)
     by SymbolKind.GateParam = l
     by SymbolKind.GateQubit = l
 
-or-true : (a b : Bool) → b ≡ true → (a || b) ≡ true
-or-true true b e = refl
-or-true false b e = e
-
 -- of the case bytes only 0 is a plain assignment
 compound : (op : ℕ) → (op ≡ 0 → ⊥) → op < 3 → isAssign (assignOpOf op) ≡ false
 compound zero z l = absurd (z refl)
@@ -71,7 +67,7 @@ module _ {t : List Text} {s : Sink} {o : List ℕ} where
   plain-assign op b d e h = silent (rw e) h
 
   pub numeric-assign : (op : ℕ) (b k : Bool) (d : Diagnostic) → k ≡ b → k ≡ true → SinkFits s → Emitted t (unless (isAssign (assignOpOf op) || b) d) s o s o
-  numeric-assign op b k d e f h = silent (rw (or-true (isAssign (assignOpOf op)) b (sym e ∙ f))) h
+  numeric-assign op b k d e f h = silent (rw (sym e ∙ f, or-true)) h
 
   pub assign-none : (x : ℕ) (op : ℕ) (v sp : Span) (expected : ClassicalType) (ty : Typed) → ty ≡ None → SinkFits s → Emitted t (assignSays x (assignOpOf op) (spanned v) sp expected (typedOf ty)) s o s o
   unfolding assignSays

@@ -215,14 +215,14 @@ pub fn read_held(s: &[u8], kinds: &[u8], at: usize) -> Read
     read_expr(s, kinds, at, EXPR_LEVELS)
 }
 
-pub fn read_held_args(s: &[u8], kinds: &[u8], at: usize) -> Read
+pub(crate) fn read_held_args(s: &[u8], kinds: &[u8], at: usize) -> Read
     requires { ⌜ now kinds ≡ kindsOf (now s) ⌝ }
     ensures { λ r. ⌜ r ≡ forget (exprs (expr (textsOf (now (s .entry))) exprLevels) (now (s .entry)) at) ⌝ }
 {
     read_args(s, kinds, at, EXPR_LEVELS)
 }
 
-pub fn read_optional_held(s: &[u8], kinds: &[u8], at: usize) -> Read
+pub(crate) fn read_optional_held(s: &[u8], kinds: &[u8], at: usize) -> Read
     requires { ⌜ now kinds ≡ kindsOf (now s) ⌝ }
     ensures { λ r. ⌜ r ≡ forget (option (expr (textsOf (now (s .entry))) exprLevels) (now (s .entry)) at) ⌝ }
 {

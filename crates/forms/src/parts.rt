@@ -25,7 +25,7 @@ const TYPES: u8 = 5;
 
 const QUALIFIERS: u8 = 3;
 
-pub fn read_operand(s: &[u8], kinds: &[u8], at: usize) -> Read
+pub(crate) fn read_operand(s: &[u8], kinds: &[u8], at: usize) -> Read
     requires { ⌜ now kinds ≡ kindsOf (now s) ⌝ }
     ensures { λ r. ⌜ r ≡ forget (operand (textsOf (now (s .entry))) (now (s .entry)) at) ⌝ }
 {
@@ -44,7 +44,7 @@ pub fn read_operand(s: &[u8], kinds: &[u8], at: usize) -> Read
     read_span(s, m).into_read()
 }
 
-pub fn read_optional_operand(s: &[u8], kinds: &[u8], at: usize) -> Read
+pub(crate) fn read_optional_operand(s: &[u8], kinds: &[u8], at: usize) -> Read
     requires { ⌜ now kinds ≡ kindsOf (now s) ⌝ }
     ensures { λ r. ⌜ r ≡ forget (option (operand (textsOf (now (s .entry)))) (now (s .entry)) at) ⌝ }
 {
@@ -101,7 +101,7 @@ fn read_pow(s: &[u8], kinds: &[u8], at: usize) -> Read
     read_span(s, k).into_read()
 }
 
-pub fn read_modifier(s: &[u8], kinds: &[u8], at: usize) -> Read
+fn read_modifier(s: &[u8], kinds: &[u8], at: usize) -> Read
     requires { ⌜ now kinds ≡ kindsOf (now s) ⌝ }
     ensures { λ r. ⌜ r ≡ forget (modifier (textsOf (now (s .entry))) (now (s .entry)) at) ⌝ }
 {
@@ -166,7 +166,7 @@ pub fn read_names(s: &[u8], kinds: &[u8], at: usize) -> Read
     Read::At(k)
 }
 
-pub fn read_params(s: &[u8], kinds: &[u8], at: usize) -> Read
+pub(crate) fn read_params(s: &[u8], kinds: &[u8], at: usize) -> Read
     requires { ⌜ now kinds ≡ kindsOf (now s) ⌝ }
     ensures { λ r. ⌜ r ≡ forget (vec (param (textsOf (now (s .entry)))) (now (s .entry)) at) ⌝ }
 {
@@ -187,7 +187,7 @@ pub fn read_params(s: &[u8], kinds: &[u8], at: usize) -> Read
     Read::At(k)
 }
 
-pub fn read_modifiers(s: &[u8], kinds: &[u8], at: usize) -> Read
+pub(crate) fn read_modifiers(s: &[u8], kinds: &[u8], at: usize) -> Read
     requires { ⌜ now kinds ≡ kindsOf (now s) ⌝ }
     ensures { λ r. ⌜ r ≡ forget (vec (modifier (textsOf (now (s .entry)))) (now (s .entry)) at) ⌝ }
 {
@@ -208,7 +208,7 @@ pub fn read_modifiers(s: &[u8], kinds: &[u8], at: usize) -> Read
     Read::At(k)
 }
 
-pub fn read_operands(s: &[u8], kinds: &[u8], at: usize) -> Read
+pub(crate) fn read_operands(s: &[u8], kinds: &[u8], at: usize) -> Read
     requires { ⌜ now kinds ≡ kindsOf (now s) ⌝ }
     ensures { λ r. ⌜ r ≡ forget (vec (operand (textsOf (now (s .entry)))) (now (s .entry)) at) ⌝ }
 {

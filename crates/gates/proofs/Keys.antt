@@ -7,23 +7,20 @@ use native.Mathlib.Omega.{arith}
 use lib.ListN.{length, getD}
 use lib.Dec.{T, ltb, eqb, ltb→lt, lt→ltb}
 use borrow.Author.Tests.{le-ltb, eq-eqb, ne-eqb}
+use Rattle.text.specs.Big.{value}
+use Rattle.text.proofs.Tests.{and-both}
 use Rattle.text.specs.Text.{same}
 use Rattle.text.proofs.Same.{same-eq, eq-same}
-use Rattle.text.proofs.Table.{and-left, and-right}
-use Rattle.gates.specs.Keys.{keyFrom, keyOf}
+use Rattle.gates.specs.Keys.{keyOf}
 
 -- every element is a byte
 abbrev pub bytes : List ℕ → Bool
 bytes [] = true
 bytes (b ∷ bs) = ltb b 256 && bytes bs
 
-both : (a b : Bool) → T a → T b → T (a && b)
-both true b s t = t
-both false b s t = absurd s
-
 pub all-bytes : (l : List ℕ) → ((i : ℕ) → getD l i 0 < 256) → T (bytes l)
 all-bytes [] h = tt
-all-bytes (b ∷ bs) h = both (ltb b 256) (bytes bs) (lt→ltb b 256 (h zero)) (all-bytes bs (λ i. h (suc i)))
+all-bytes (b ∷ bs) h = and-both (ltb b 256) (bytes bs) .1 (lt→ltb b 256 (h zero), all-bytes bs (λ i. h (suc i)))
 
 -- a name of at most six bytes
 pub record Short (l : List ℕ) : Type 0 where
@@ -42,14 +39,14 @@ unkey-step f k b bs h hb =
     let m : (k * 256 + b) % 256 ≡ b = omega arith in
     rw (le-ltb (k * 256 + b) 256 (omega arith), d, m)
 
-unkey-all : (l : List ℕ) (f k : ℕ) (bs : List ℕ) → 1 ≤ k → T (bytes l) → unkey (f + length l) (keyFrom k l) bs ≡ unkey f k (l ++ bs)
-unfolding keyFrom
+unkey-all : (l : List ℕ) (f k : ℕ) (bs : List ℕ) → 1 ≤ k → T (bytes l) → unkey (f + length l) (value k l) bs ≡ unkey f k (l ++ bs)
+unfolding value
 unkey-all [] f k bs h t = let e : f + 0 ≡ f = omega arith in rw e
 unkey-all (b ∷ l) f k bs h t =
     let e : f + suc (length l) ≡ suc f + length l = omega arith in
-    let hb : b < 256 = ltb→lt b 256 (and-left (ltb b 256) (bytes l) t) in
+    let hb : b < 256 = ltb→lt b 256 (and-both (ltb b 256) (bytes l) .0 t .0) in
     rw e
-    (unkey-all l (suc f) (k * 256 + b) bs (omega arith) (and-right (ltb b 256) (bytes l) t)
+    (unkey-all l (suc f) (k * 256 + b) bs (omega arith) (and-both (ltb b 256) (bytes l) .0 t .1)
     ∙ unkey-step f k b (l ++ bs) h hb)
 
 unkey-one : (f : ℕ) (bs : List ℕ) → unkey f 1 bs ≡ bs

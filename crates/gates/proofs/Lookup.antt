@@ -7,12 +7,12 @@ use native.Mathlib.Omega.{arith}
 use lib.ListN.{length, getD, length-map, List·getD-map}
 use lib.Dec.{T, leb, ltb, eqb, leb→le, leb·suc-suc}
 use borrow.Author.Tests.{lt-ltb, le-ltb}
+use Rattle.text.proofs.Tests.{and-both}
 use Rattle.text.specs.Text.{same}
 use Rattle.text.proofs.Same.{same-eq}
-use Rattle.text.proofs.Table.{and-left, and-right}
 use Rattle.gates.specs.declared.Signature.{Signature}
 use Rattle.gates.specs.declared.Signature.the-variants.{Standard, None}
-use Rattle.gates.specs.Gates.{Gate, gates, lower, lookup, signatureOf}
+use Rattle.gates.specs.Gates.{Gate, gates, lower, lookup, signatureOf, twenty-eight}
 use Rattle.gates.specs.Keys.{keyOf, indexOf}
 use Rattle.gates.proofs.Keys.{bytes, all-bytes, Short, same-key}
 use Rattle.gates.proofs.Loops.{lower-below}
@@ -40,7 +40,7 @@ allShort (g ∷ gs) = short (g .name) && allShort gs
 
 is-short : (l : List ℕ) → T (short l) → Short l
 unfolding short
-is-short l t = record { few = leb→le (length l) 6 (and-left (leb (length l) 6) (bytes l) t); all = and-right (leb (length l) 6) (bytes l) t }
+is-short l t = record { few = leb→le (length l) 6 (and-both (leb (length l) 6) (bytes l) .0 t .0); all = and-both (leb (length l) 6) (bytes l) .0 t .1 }
 
 gates-short : T (allShort gates)
 unfolding gates short allShort
@@ -57,8 +57,8 @@ module _ (l : List ℕ) where
   unfolding lookup picked indexOf keysOf allShort
   by-key s [] t = refl
   by-key s (g ∷ gs) t =
-      let h = is-short (g .name) (and-left (short (g .name)) (allShort gs) t) in
-      rw (by-key s gs (and-right (short (g .name)) (allShort gs) t), same-key l (g .name) s h)
+      let h = is-short (g .name) (and-both (short (g .name)) (allShort gs) .0 t .0) in
+      rw (by-key s gs (and-both (short (g .name)) (allShort gs) .0 t .1), same-key l (g .name) s h)
       (step g gs (indexOf (keyOf l) (keysOf gs)) (eqb (keyOf (g .name)) (keyOf l)))
 
   differ : 6 < length l → (n : List ℕ) → Short n → (b : Bool) → same l n ≡ b → b ≡ false
@@ -69,9 +69,9 @@ module _ (l : List ℕ) where
   unfolding lookup allShort
   too-long h [] t = refl
   too-long h (g ∷ gs) t =
-      let s = is-short (g .name) (and-left (short (g .name)) (allShort gs) t) in
+      let s = is-short (g .name) (and-both (short (g .name)) (allShort gs) .0 t .0) in
       rw (differ h (g .name) s (same l (g .name)) refl)
-      (too-long h gs (and-right (short (g .name)) (allShort gs) t))
+      (too-long h gs (and-both (short (g .name)) (allShort gs) .0 t .1))
 
 -- a name as it is given, its letters not lowered yet
 module _ (name : List ℕ) where
@@ -91,14 +91,10 @@ module _ (name : List ℕ) where
     unfolding signatureOf
     at-place = rw (f, e) (by-key (map lower name) (short-name h k) gates gates-short)
 
-    count : length gates ≡ 28
-    unfolding gates
-    count = refl
-
     pub found : n < 28 → Standard (getD (paramsOf gates) n 0) (getD (qubitsOf gates) n 0) ≡ signatureOf (map lower name)
     unfolding picked
-    found u = rw (at-place, lt-ltb n (length gates) (omega (arith, count)))
+    found u = rw (at-place, lt-ltb n (length gates) (omega (arith, twenty-eight)))
 
     pub missing : 28 ≤ n → None ≡ signatureOf (map lower name)
     unfolding picked
-    missing u = rw (at-place, le-ltb n (length gates) (omega (arith, count)))
+    missing u = rw (at-place, le-ltb n (length gates) (omega (arith, twenty-eight)))

@@ -10,9 +10,10 @@ use lib.ListN.{length, getD, drop}
 use lib.Seq.{drop-cons, drop-length}
 use lib.Dec.{lit<}
 use borrow.Author.Tests.{le-leb, lt-leb, eq-eqb, ne-eqb}
-use Rattle.text.proofs.Clamp.{split}
+use Rattle.text.specs.Big.{value}
+use Rattle.text.proofs.Order.{le-or-lt}
 use Rattle.gates.specs.Gates.{lower}
-use Rattle.gates.specs.Keys.{keyFrom, keyOf, indexOf}
+use Rattle.gates.specs.Keys.{keyOf, indexOf}
 
 -- a byte is lowered
 abbrev Lowered : ℕ → ℕ → Type 0
@@ -33,15 +34,15 @@ letter b g h = (rw (le-leb 65 b g, le-leb b 90 h), omega arith)
 pub lower-below : (b : ℕ) → b < 256 → lower b < 256
 lower-below b h =
     ⊎-elim
-    (λ g. ⊎-elim (λ k. omega (arith, letter b g k .0)) (λ k. omega (arith, high-byte b h g k .0)) (split b 90))
+    (λ g. ⊎-elim (λ k. omega (arith, letter b g k .0)) (λ k. omega (arith, high-byte b h g k .0)) (le-or-lt b 90))
     (λ g. omega (arith, low-byte b h g .0))
-    (split 65 b)
+    (le-or-lt 65 b)
 
 -- i bytes of a name stand in the key
 pub record Folding (name : List ℕ) (key i : ℕ) : Type 0 where
   pub within : i ≤ length name
   pub small : key < 2 * 256 ^ i
-  pub same : keyFrom key (map lower (drop i name)) ≡ keyOf (map lower name)
+  pub same : value key (map lower (drop i name)) ≡ keyOf (map lower name)
 
 pub folding-start : (name : List ℕ) → Folding name 1 0
 folding-start name = record { within = omega arith; small = omega arith; same = refl }
@@ -53,7 +54,7 @@ module _ {name : List ℕ} {key i : ℕ} (f : Folding name key i) where
       omega (arith, f .small, p)
 
   pub folding-more : (b : ℕ) → i < length name → b ≡ lower (getD name i 0) → b < 256 → Folding name (key * 256 + b) (i + 1)
-  unfolding keyFrom
+  unfolding value
   folding-more b h e l =
       record {
         within = omega arith;
@@ -62,7 +63,7 @@ module _ {name : List ℕ} {key i : ℕ} (f : Folding name key i) where
       }
 
   pub folding-end : length name ≤ i → key ≡ keyOf (map lower name)
-  unfolding keyFrom
+  unfolding value
   folding-end h =
       let e : i ≡ length name = omega (arith, f .within) in
       rw (e, drop-length name) at (f .same)

@@ -65,7 +65,7 @@ lookup n (g ∷ gs) = cond (same n (g .name)) (Standard (g .params) (g .qubits))
 unfoldable pub signatureOf : List ℕ → Signature
 signatureOf n = lookup n gates
 
-twenty-eight : length gates ≡ 28
+pub twenty-eight : length gates ≡ 28
 unfolding gates
 twenty-eight = refl
 

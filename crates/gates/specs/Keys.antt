@@ -4,15 +4,11 @@ use Prim.Native.Nat.{ℕ, suc, _+_, _*_}
 use mathlib.Core.Bool.{cond}
 use mathlib.Core.List.{List, [], _∷_}
 use lib.Dec.{eqb}
-
--- the bytes after those that stand in a number already, 256 for each place
-unfoldable pub keyFrom : ℕ → List ℕ → ℕ
-keyFrom k [] = k
-keyFrom k (b ∷ bs) = keyFrom (k * 256 + b) bs
+use Rattle.text.specs.Big.{value}
 
 -- the key of a name: a byte 1, then its bytes
 abbrev pub keyOf : List ℕ → ℕ
-keyOf name = keyFrom 1 name
+keyOf name = value 1 name
 
 -- the place of the first entry that is k, or the length where there is none
 unfoldable pub indexOf : ℕ → List ℕ → ℕ

@@ -14,7 +14,7 @@ use Rattle.ast.specs.Tree.{Text}
 use Rattle.tree.specs.Limits.{textsLimit, textLimit}
 use Rattle.tree.specs.Ans.{Ans, ok, _>>=_, _>>_, done, here, check, IsOk, nextOf}
 use Rattle.tree.specs.Read.{within, bytes}
-use Rattle.tree.specs.Texts.{between, allowed, among, text, moreTexts, texts}
+use Rattle.tree.specs.Texts.{between, allowed, among, text, moreTexts, texts, textAt, past}
 use Rattle.tree.specs.Decode.{decode, textsOf}
 use Rattle.context.specs.View.{numberAt, textPlace, TextAt, TextsAt}
 use Rattle.accepted.specs.Parts.{valueOr, next-is, value-is, Goes, start, field, known, past-here, checked, past-check, past-unit, ends}
@@ -34,16 +34,9 @@ allowed-is (c ∷ cs) place s k h =
     let g = past-check _ _ _ _ (start h) in
     g .is ∙ allowed-is cs (place + 1) s k (subst IsOk (g .is) h)
 
--- the bytes of the text whose length byte stands at a place, and the place past them
-abbrev held : List ℕ → ℕ → Text
-held s at = take (getD s at 0) (drop (at + 1) s)
-
-abbrev end : List ℕ → ℕ → ℕ
-end s at = at + 1 + getD s at 0
-
 -- one text
 module _ (s : List ℕ) (at : ℕ) where
-  bytes-step : IsOk (bytes (getD s at 0) s (at + 1)) → (end s at ≤ length s) × (bytes (getD s at 0) s (at + 1) ≡ ok (held s at) (end s at))
+  bytes-step : IsOk (bytes (getD s at 0) s (at + 1)) → (past s at ≤ length s) × (bytes (getD s at 0) s (at + 1) ≡ ok (textAt s at) (past s at))
   unfolding bytes
   bytes-step h = let w = within-is _ _ _ h in (leb-true _ _ (w .0), w .1)
 
@@ -58,30 +51,30 @@ module _ (s : List ℕ) (at : ℕ) where
     text-short : getD s at 0 ≤ textLimit
     text-short = leb-true _ _ (and-eq-true-iff (leb 1 (getD s at 0)) (leb (getD s at 0) textLimit) .0 (checked _ _ _ _ length-goes) .1)
 
-    text-inside : end s at ≤ length s
+    text-inside : past s at ≤ length s
     text-inside = bytes-step (field _ _ bytes-goes) .0
 
-    text-is : text earlier s at ≡ ok (held s at) (end s at)
-    text-is = ends _ (past-check _ _ _ _ (past-unit _ _ (end s at) (allowed-is (held s at) (at + 1) s (end s at)) (known _ _ (end s at) (λ o. bytes-step o .1) refl bytes-goes)))
+    text-is : text earlier s at ≡ ok (textAt s at) (past s at)
+    text-is = ends _ (past-check _ _ _ _ (past-unit _ _ (past s at) (allowed-is (textAt s at) (at + 1) s (past s at)) (known _ _ (past s at) (λ o. bytes-step o .1) refl bytes-goes)))
 
 -- texts one after the other
 more-first : (n : ℕ) (earlier : List Text) (s : List ℕ) (at : ℕ) → IsOk (moreTexts (suc n) earlier s at) → IsOk (text earlier s at)
 unfolding moreTexts
 more-first n earlier s at h = field _ _ (start h)
 
-more-step : (n : ℕ) (earlier : List Text) (s : List ℕ) (at : ℕ) → IsOk (moreTexts (suc n) earlier s at) → moreTexts (suc n) earlier s at ≡ moreTexts n (earlier ++ (held s at ∷ [])) s (end s at)
+more-step : (n : ℕ) (earlier : List Text) (s : List ℕ) (at : ℕ) → IsOk (moreTexts (suc n) earlier s at) → moreTexts (suc n) earlier s at ≡ moreTexts n (earlier ++ (textAt s at ∷ [])) s (past s at)
 unfolding moreTexts
-more-step n earlier s at h = known _ _ (end s at) (text-is s at earlier) refl (start h) .is
+more-step n earlier s at h = known _ _ (past s at) (text-is s at earlier) refl (start h) .is
 
 -- they begin with the earlier ones
 more-begins : (n : ℕ) (earlier : List Text) (s : List ℕ) (at : ℕ) → IsOk (moreTexts n earlier s at) → take (length earlier) (valueOr [] (moreTexts n earlier s at)) ≡ earlier
 unfolding moreTexts
 more-begins zero earlier s at h = rw (value-is (ends earlier (start h)) []) (take-length earlier)
 more-begins (suc n) earlier s at h =
-    let x = held s at ∷ [] in
+    let x = textAt s at ∷ [] in
     let e = more-step n earlier s at h in
-    let b = more-begins n (earlier ++ x) s (end s at) (subst IsOk e h) in
-    let v : List Text = valueOr [] (moreTexts n (earlier ++ x) s (end s at)) in
+    let b = more-begins n (earlier ++ x) s (past s at) (subst IsOk e h) in
+    let v : List Text = valueOr [] (moreTexts n (earlier ++ x) s (past s at)) in
     let l : length earlier ≤ length (earlier ++ x) = omega (arith, length-append earlier x) in
     ap (λ a. take (length earlier) (valueOr [] a)) e ∙ sym (take-take (length earlier) (length (earlier ++ x)) v l) ∙ ap (take (length earlier)) b ∙ take-append-seam earlier x
 
@@ -130,22 +123,22 @@ module _ (s index : List ℕ) (n i at : ℕ) (p : Placing s index n i at) where
     first : IsOk (text before s at)
     first = more-first _ before s at rest
 
-    pub place-inside : end s at ≤ length s
+    pub place-inside : past s at ≤ length s
     place-inside = text-inside s at before first
 
-    next : texts s 0 ≡ moreTexts (n - (i + 1)) (before ++ (held s at ∷ [])) s (end s at)
+    next : texts s 0 ≡ moreTexts (n - (i + 1)) (before ++ (textAt s at ∷ [])) s (past s at)
     next = remains ∙ more-step _ before s at rest
 
-    counted : length (before ++ (held s at ∷ [])) ≡ i + 1
-    counted = omega (arith, length-append before (held s at ∷ []), p .count)
+    counted : length (before ++ (textAt s at ∷ [])) ≡ i + 1
+    counted = omega (arith, length-append before (textAt s at ∷ []), p .count)
 
-    taken : take (i + 1) (textsOf s) ≡ before ++ (held s at ∷ [])
+    taken : take (i + 1) (textsOf s) ≡ before ++ (textAt s at ∷ [])
     taken =
         let b = more-begins _ _ s _ (subst IsOk next (p .fine)) in
         rw (counted, ← next, texts-value) at b
 
-    text-here : getD (textsOf s) i [] ≡ held s at
-    text-here = sym (getD-take (i + 1) (textsOf s) i [] (omega arith)) ∙ ap (λ t. getD t i []) taken ∙ getD-at before (held s at) [] [] i (p .count)
+    text-here : getD (textsOf s) i [] ≡ textAt s at
+    text-here = sym (getD-take (i + 1) (textsOf s) i [] (omega arith)) ∙ ap (λ t. getD t i []) taken ∙ getD-at before (textAt s at) [] [] i (p .count)
 
     placed : textPlace (set index i at) i ≡ at
     placed = getD-set-same index i at 0 (omega (arith, p .size, p .few))

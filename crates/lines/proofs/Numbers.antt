@@ -5,6 +5,8 @@ use mathlib.Core.List.{List, [], _∷_, _++_, append-assoc, append-nil}
 use native.Mathlib.Omega.{arith}
 use lib.ListN.{length, take, drop, set, replicate, length-set, length-take, length-drop, drop-of-length-le}
 use lib.Seq.{take-all}
+use native.Mathlib.Nat.{le-of-eq}
+use Rattle.text.proofs.Clamp.{rest-of}
 use Rattle.text.specs.Decimal.{decimal}
 use Rattle.span.specs.declared.Span.{Span}
 use Rattle.lines.specs.Plans.{headText}
@@ -63,15 +65,11 @@ module _ (v : ℕ) {b₀ : List ℕ} {end : ℕ} (h : (length (decimal v) ≤ en
           size = length-set b i (48 + rest) ∙ s .size;
         }
 
--- the rest of the bytes, as a piece
-tail : (b : List ℕ) (i : ℕ) → length b ≡ 24 → take (24 - i) (drop i b) ≡ drop i b
-tail b i h = take-all (24 - i) (drop i b) (omega (arith, length-drop i b))
-
 -- `number` stores the digits
 module _ (v : ℕ) {b₀ b : List ℕ} {i : ℕ} (h : length b₀ ≡ 24) (s : Before b₀ 24 b i (decimal v)) where
   number-piece : take (24 - i) (drop i b) ≡ decimal v
   number-piece =
-      tail b i (s .size ∙ h) ∙ s .shows ∙ ap (λ (l : List ℕ). decimal v ++ l) (drop-of-length-le b₀ {i = 24} (omega arith)) ∙ append-nil (decimal v)
+      rest-of b i 24 (le-of-eq (s .size ∙ h)) ∙ s .shows ∙ ap (λ (l : List ℕ). decimal v ++ l) (drop-of-length-le b₀ {i = 24} (omega arith)) ∙ append-nil (decimal v)
 
   pub number-said : {o : List ℕ} {n : ℕ} {o′ : List ℕ} {r : ℕ} → v < 18446744073709551616 → Wrote o n o′ r (take (24 - i) (drop i b)) → Said o n o′ r (decimal v) 20
   number-said {o} {n} {o′} {r} f w =
@@ -119,7 +117,7 @@ module _ (sp : Span) (c : ℕ) (u : sp .start < 4294967296) (v : sp .end < 42949
         let b = set b₃ (s - 1) 32 in
         let m = length-set b₃ (s - 1) 32 ∙ start-size in
         let d : drop (s - 2) (set b (s - 2) c) ≡ c ∷ drop (s - 1) b = rw z (before-set b (s - 1) c (omega (arith, start-past)) (omega (arith, start-below, m))) in
-        tail (set b (s - 2) c) (s - 2) (length-set b (s - 2) c ∙ m) ∙ d ∙ ap (λ (l : List ℕ). c ∷ l) start-shows
+        rest-of (set b (s - 2) c) (s - 2) 24 (le-of-eq (length-set b (s - 2) c ∙ m)) ∙ d ∙ ap (λ (l : List ℕ). c ∷ l) start-shows
 
     head-short : length (headText c sp) ≤ 24
     head-short =

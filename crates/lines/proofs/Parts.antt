@@ -3,18 +3,19 @@ use Prim.Native.Nat.{ℕ, zero, suc, _<_, _≤_, _+_, _-_}
 use mathlib.Core.Path.{_≡_, refl, sym, ap, _∙_}
 use mathlib.Core.Bool.{Bool, true, false, not, _&&_, _||_}
 use mathlib.Core.List.{List, [], _∷_, _++_}
-use mathlib.Core.Logic.{⊎-elim}
+use mathlib.Core.Logic.{⊎-elim, inr}
 use native.Mathlib.Omega.{arith}
 use native.Mathlib.Numerals.{add-one}
 use lib.Seq.{length-sets}
 use lib.ListN.{length, getD, drop, replicate, length-take, getD-replicate, List·getD-eq-default, drop-of-length-le}
 use lib.Dec.{T, eqb, leb, ltb, eqb→eq, leb→le, ltb→lt}
 use borrow.Author.Tests.{eq-eqb, ne-eqb}
+use Rattle.text.proofs.Order.{le-or-lt}
+use Rattle.text.proofs.Tests.{and-both, or-either}
 use Rattle.ast.specs.Tree.{Text}
 use Rattle.text.specs.Text.{part}
 use Rattle.text.specs.Decimal.{decimal}
-use Rattle.text.proofs.Table.{every, at, and-left, and-right}
-use Rattle.text.proofs.Clamp.{split}
+use Rattle.text.proofs.Table.{every, at}
 use Rattle.tree.specs.Decode.{textsOf}
 use Rattle.sema.specs.Messages.{nameAt}
 use Rattle.context.specs.View.{textPlace}
@@ -150,22 +151,22 @@ row-stops kind =
     ⊎-elim
     (λ (h : 59 ≤ kind). rw (List·getD-eq-default plans [] {n = kind} (omega (arith, row-count))) tt)
     (λ (h : kind < 59). at isStopped plans [] all-stopped kind (omega (arith, row-count)))
-    (split 59 kind)
+    (le-or-lt 59 kind)
 
 module _ (t : List Text) (p : Plan) where
   blank-says : (cs : List ℕ) → T (blank cs) → joined t p cs ≡ []
   unfolding joined blank
   blank-says [] u = refl
   blank-says (c ∷ cs) u =
-      rw (eqb→eq c noPart (and-left (eqb c noPart) (blank cs) u), no-part t p) (blank-says cs (and-right (eqb c noPart) (blank cs) u))
+      rw (eqb→eq c noPart (and-both (eqb c noPart) (blank cs) .0 u .0), no-part t p) (blank-says cs (and-both (eqb c noPart) (blank cs) .0 u .1))
 
   stop-says : (row : List ℕ) (k : ℕ) → T (stops row) → getD row k noPart ≡ noPart → joined t p (drop k row) ≡ []
   unfolding joined stops
   stop-says [] zero u e = refl
   stop-says [] (suc k) u e = refl
   stop-says (c ∷ cs) zero u e =
-      rw (e, no-part t p) (blank-says cs (rw (eq-eqb c noPart e) at (and-left (not (eqb c noPart) || blank cs) (stops cs) u)))
-  stop-says (c ∷ cs) (suc k) u e = stop-says cs k (and-right (not (eqb c noPart) || blank cs) (stops cs) u) e
+      rw (e, no-part t p) (blank-says cs (rw (eq-eqb c noPart e) at (and-both (not (eqb c noPart) || blank cs) (stops cs) .0 u .0)))
+  stop-says (c ∷ cs) (suc k) u e = stop-says cs k (and-both (not (eqb c noPart) || blank cs) (stops cs) .0 u .1) e
 
 no-room : partRoom noPart ≡ 0
 unfolding partRoom pieceRoom
@@ -192,25 +193,21 @@ row-room kind =
     ⊎-elim
     (λ (h : 59 ≤ kind). rw (List·getD-eq-default plans [] {n = kind} (omega (arith, row-count))) (omega arith))
     (λ (h : kind < 59). leb→le (rowRoom (getD plans kind [])) 336 (at isTight plans [] all-tight kind (omega (arith, row-count))))
-    (split 59 kind)
+    (le-or-lt 59 kind)
 
 row-end : (kind : ℕ) → drop 9 (rowAt kind) ≡ []
 row-end kind =
     ⊎-elim
     (λ (h : 59 ≤ kind). rw (row-past kind h))
     (λ (h : kind < 59). drop-of-length-le (rowAt kind) {i = 9} (omega (arith, row-length kind h)))
-    (split 59 kind)
+    (le-or-lt 59 kind)
 
 -- a part that is the name, among the first nine
 named-at : (row : List ℕ) (k : ℕ) → getD row k noPart ≡ aName → T (hasName row)
 unfolding hasName
 named-at [] k e = absurd (omega arith)
 named-at (c ∷ cs) zero e = rw (eq-eqb c aName e) tt
-named-at (c ∷ cs) (suc k) e = or-right (eqb c aName) (hasName cs) (named-at cs k e)
-  where
-    or-right : (a b : Bool) → T b → T (a || b)
-    or-right true b t = tt
-    or-right false b t = t
+named-at (c ∷ cs) (suc k) e = or-either (eqb c aName) (hasName cs) .1 (inr (named-at cs k e))
 
 pub name-needed : {tree index : List ℕ} (p : Plan) (k : ℕ) {c : ℕ} → Named tree index p → c ≡ getD (rowAt (p .kind)) k noPart → c ≡ aName → Readable tree index (p .name)
 name-needed p k f e g = f (named-at (rowAt (p .kind)) k (sym e ∙ g))

@@ -9,9 +9,10 @@ use native.Mathlib.Numerals.{add-one}
 use lib.ListN.{length, getD, length-append, List·getD-eq-default}
 use lib.Seq.{drop-append-seam, take-append-seam}
 use lib.Dec.{T, leb, leb→le}
+use native.Mathlib.Nat.{add-sub-cancel-left}
+use Rattle.text.proofs.Order.{le-or-lt}
 use Rattle.text.specs.Text.{concat, part}
 use Rattle.text.proofs.Table.{every, at}
-use Rattle.text.proofs.Clamp.{split}
 use Rattle.lines.specs.Plans.{phrases, allWords, starts, phrasePlaces, Lent, phrase}
 use Rattle.lines.specs.Stored.{Shown}
 
@@ -19,14 +20,11 @@ starts-first : (n : ℕ) (xs : List (List ℕ)) → getD (starts n xs) 0 0 ≡ n
 starts-first n [] = refl
 starts-first n (x ∷ xs) = refl
 
-over-first : (n m : ℕ) → n + m - n ≡ m
-over-first n m = omega arith
-
 -- each text stands between its start and the next
 between : (xs : List (List ℕ)) (pre : List ℕ) (k : ℕ) → k < length xs → part (getD (starts (length pre) xs) k 0) (getD (starts (length pre) xs) (suc k) 0) (pre ++ concat xs) ≡ getD xs k []
 between [] pre k h = absurd (omega arith)
 between (x ∷ xs) pre zero h =
-    rw (starts-first (length pre + length x) xs, over-first (length pre) (length x), drop-append-seam pre (x ++ concat xs)) (take-append-seam x (concat xs))
+    rw (starts-first (length pre + length x) xs, add-sub-cancel-left (length pre) (length x), drop-append-seam pre (x ++ concat xs)) (take-append-seam x (concat xs))
 between (x ∷ xs) pre (suc k) h = rw (length-append pre x, append-assoc pre x (concat xs)) at (between xs (pre ++ x) k (omega arith))
 
 phrase-count : length phrases ≡ 96
@@ -55,7 +53,7 @@ phrase-short n =
     ⊎-elim
     (λ (h : 96 ≤ n). omega (arith, ap length (phrase-none n h)))
     (λ (h : n < 96). leb→le (length (getD phrases n [])) 110 (at isShort phrases [] all-short n (omega (arith, phrase-count))))
-    (split 96 n)
+    (le-or-lt 96 n)
 
 -- `phrase_of` reads the phrase
 pub phrase-read : {w q : List ℕ} (n : ℕ) {a e : ℕ} {r : List ℕ} → Lent w q → n < 96 → a ≡ getD q n 0 → e ≡ getD q (n + 1) 0 → r ≡ part a e w → Shown r (phrase n) 110

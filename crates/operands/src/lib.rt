@@ -64,7 +64,7 @@ pub fn check_operand(
     bounds::check_bounds(tree, index, out, op, symbol, s)
 }
 
-pub fn operand_width(scratch: &[u8], depth: usize, op: GateOperand) -> Number
+fn operand_width(scratch: &[u8], depth: usize, op: GateOperand) -> Number
     requires { ⌜ (65536 ≤ length (now scratch)) × (depth ≤ 9) × (op .name < 256) ⌝ }
     ensures { λ r. ⌜ numberOf r ≡ operandWidth (scopesOf (now (scratch .entry)) depth) (operandOf op) ⌝ }
 {
@@ -115,7 +115,7 @@ pub fn check_measure_widths(
     )
 }
 
-pub fn check_use_after_measure(
+fn check_use_after_measure(
     tree: &[u8],
     index: &[u64],
     out: &mut [u8],

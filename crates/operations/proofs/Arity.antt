@@ -3,7 +3,7 @@ use Prim.Native.Nat.{ℕ, _+_, _-_, _≤_, _<_}
 use mathlib.Core.Path.{_≡_, refl, sym, ap, _∙_}
 use mathlib.Core.List.{List, [], map}
 use mathlib.Core.Option.{none, some}
-use mathlib.Core.Bool.{Bool, true, false, _&&_}
+use mathlib.Core.Bool.{Bool, true, false, _&&_, and-eq-true-iff}
 use native.Mathlib.Omega.{arith}
 use native.Mathlib.Nat.{add-comm}
 use lib.ListN.{getD}
@@ -26,7 +26,6 @@ use Rattle.lines.specs.declared.Secondary.{Secondary}
 use Rattle.lines.specs.declared.Diagnostic.{Diagnostic as DiagnosticValue}
 use Rattle.lines.specs.Values.{secondaryOf, errorOf, Reported}
 use Rattle.promises.specs.Emitted.{Emitted, emitted-one, emitted-then, emitted-as, unless-holds, unless-fails}
-use Rattle.sheet.specs.Places.{both}
 use Rattle.operations.specs.declared.calls.Call.{Call}
 use Rattle.operations.specs.Calls.{noted, paramsBy, qubitsBy, arityBy, standardBy, standardOf, signatureBy}
 
@@ -51,7 +50,7 @@ module _ (c : Call) (params qubits : ℕ) where
 
   pub arity-fits : {t : List Text} (decl : Secondary) {s : Sink} {o : List ℕ} (b : Bool) → b ≡ (eqb (c .params) params && eqb (c .args) (qubits + c .controls)) → b ≡ true → SinkFits s → Emitted t (arityBy c params qubits (secondaryOf decl)) s o s o
   arity-fits decl b is e f =
-      let g = both (eqb (c .params) params) (eqb (c .args) (qubits + c .controls)) (sym is ∙ e) in
+      let g = and-eq-true-iff (eqb (c .params) params) (eqb (c .args) (qubits + c .controls)) .0 (sym is ∙ e) in
       emitted-then (unless-holds _ _ (g .0) f) (unless-holds _ _ (g .1) f)
 
 module _ {t : List Text} (c : Call) (n : ℕ) (decl : Secondary) {s : Sink} {o : List ℕ} where

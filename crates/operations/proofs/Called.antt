@@ -5,7 +5,7 @@ use mathlib.Core.List.{List, [], _++_, append-assoc}
 use mathlib.Core.Option.{Option, none, some}
 use lib.ListN.{length, getD}
 use Rattle.span.specs.declared.Span.{Span}
-use Rattle.ast.specs.Tree.{Text, Exprs, noExpr, moreExpr, GateModifier, GateOperand, Stmt}
+use Rattle.ast.specs.Tree.{Text, Exprs, noExpr, moreExpr, GateModifier, GateOperand, Stmt, exprCount}
 use Rattle.gates.specs.declared.Signature.{Signature}
 use Rattle.tree.specs.Ans.{Ans, ok, IsOk, nextOf, given}
 use Rattle.tree.specs.Read.{vec}
@@ -17,7 +17,7 @@ use Rattle.sema.specs.Symbols.{Symbols, GateSig, FunctionSig, Table, after}
 use Rattle.sema.specs.Marks.{Marks, effect, apply, mark}
 use Rattle.sema.specs.Constants.{controls}
 use Rattle.sema.specs.Operands.{useOperands}
-use Rattle.sema.specs.Exprs.{count, checkModifiers}
+use Rattle.sema.specs.Exprs.{checkModifiers}
 use Rattle.sema.specs.Stmts.{SemaContext, aritySays, standardSays, signatureSays, paramsSay, registerWidths, widthsSay, gateCallSays, analyzeStmt}
 use Rattle.context.specs.declared.Sink.{Sink}
 use Rattle.context.specs.declared.After.{After}
@@ -53,7 +53,7 @@ params-plain c noExpr = refl
 params-plain c (moreExpr e es) = rw (params-plain c es)
 
 -- the signature of a call, by its numbers
-module _ (t : List Text) (c : Call) (ps : Exprs) (ms : List GateModifier) (ops : List GateOperand) (p : c .params ≡ count ps) (k : c .controls ≡ controls ms) (a : c .args ≡ length ops) where
+module _ (t : List Text) (c : Call) (ps : Exprs) (ms : List GateModifier) (ops : List GateOperand) (p : c .params ≡ exprCount ps) (k : c .controls ≡ controls ms) (a : c .args ≡ length ops) where
   arity-none : (params qubits : ℕ) → arityBy c params qubits none ≡ aritySays (c .name) params qubits none ps ms ops (c .span)
   unfolding aritySays
   arity-none params qubits = rw (p, k, a)

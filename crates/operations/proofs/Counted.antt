@@ -5,13 +5,12 @@ use mathlib.Core.List.{List, []}
 use mathlib.Core.Option.{Option, none, some}
 use lib.ListN.{length, getD}
 use Rattle.span.specs.declared.Span.{Span}
-use Rattle.ast.specs.Tree.{Text, noExpr, moreExpr, GateModifier}
+use Rattle.ast.specs.Tree.{Text, noExpr, moreExpr, GateModifier, exprCount}
 use Rattle.tree.specs.Ans.{IsOk, nextOf}
 use Rattle.tree.specs.Read.{vec}
 use Rattle.tree.specs.Exprs.{exprs}
 use Rattle.tree.specs.Stmts.{held, modifier, operand, stmt}
-use Rattle.sema.specs.Constants.{modifierControlCount, controls}
-use Rattle.sema.specs.Exprs.{count}
+use Rattle.sema.specs.Constants.{modifierControlCount, controls, or0}
 use Rattle.context.specs.View.{numberAt, spanAt, TextsAt, textPlace}
 use Rattle.tree.specs.Decode.{textsOf}
 use Rattle.text.specs.Text.{part}
@@ -23,35 +22,28 @@ use Rattle.constants.specs.declared.Total.{Total}
 use Rattle.constants.specs.declared.Controls.{Controls}
 use Rattle.constants.specs.Views.{totalOf, TotalOf}
 use Rattle.constants.specs.Laws.{total-of}
-use Rattle.operations.specs.Calls.{total, CallOf}
+use Rattle.operations.specs.Calls.{CallOf}
 
-exprs-size : (t : List Text) (s : List ℕ) (at : ℕ) → IsOk (exprs (held t) s at) → count (valueOr noExpr (exprs (held t) s at)) ≡ getD s at 0
-unfolding count
-exprs-size t s at h = counted-size noExpr moreExpr (held t) blank count refl (λ a b. refl) s at h
+exprs-size : (t : List Text) (s : List ℕ) (at : ℕ) → IsOk (exprs (held t) s at) → exprCount (valueOr noExpr (exprs (held t) s at)) ≡ getD s at 0
+unfolding exprCount
+exprs-size t s at h = counted-size noExpr moreExpr (held t) blank exprCount refl (λ a b. refl) s at h
 
 -- a total, or 0
 module _ {c : Total} where
-  pub total-none : c ≡ Total.None → 0 ≡ total (totalOf c)
-  unfolding total totalOf
+  pub total-none : c ≡ Total.None → 0 ≡ or0 (totalOf c)
+  unfolding totalOf
   total-none e = rw e
 
-  pub total-some : (n : ℕ) → c ≡ Total.Some n → n ≡ total (totalOf c)
-  unfolding total totalOf
+  pub total-some : (n : ℕ) → c ≡ Total.Some n → n ≡ or0 (totalOf c)
+  unfolding totalOf
   total-some n e = rw e
-
-controls-is : (ms : List GateModifier) → total (modifierControlCount ms) ≡ controls ms
-unfolding total controls
-controls-is ms = go (modifierControlCount ms)
-  where
-    go : (o : Option ℕ) → total o ≡ elim o [ none ↦ 0 | some n ↦ n ]
-    go none = refl
-    go (some n) = refl
 
 module _ (t : List Text) (left : ℕ) (s : List ℕ) (at : ℕ) (h : IsOk (stmt t left s at)) (b : getD s at 0 ≡ 5) where
   pub call-read : {c : Controls} → TotalOf (vec (modifier t) s (at + 3)) c
       → {m : ℕ} → m ≡ nextOf (exprs (held t) s (c .next)) → {n : ℕ} → n ≡ nextOf (vec (operand t) s m)
-      → {x params args ctl : ℕ} {sp : Span} → x ≡ numberAt 2 s (at + 1) → params ≡ getD s (c .next) 0 → args ≡ getD s m 0 → ctl ≡ total (totalOf (c .total)) → sp ≡ spanAt s n
+      → {x params args ctl : ℕ} {sp : Span} → x ≡ numberAt 2 s (at + 1) → params ≡ getD s (c .next) 0 → args ≡ getD s m 0 → ctl ≡ or0 (totalOf (c .total)) → sp ≡ spanAt s n
       → CallOf t s at (record { name = x; params = params; args = args; controls = ctl; «params_at» = c .next; «args_at» = m; end = n; span = sp })
+  unfolding controls
   call-read {c} p {m} e f g i j k l =
       let ms = gateCall-modifiers t left s at h b in
       let ps = gateCall-params t left s at h b (c .next) (p .next) in
@@ -64,7 +56,7 @@ module _ (t : List Text) (left : ℕ) (s : List ℕ) (at : ℕ) (h : IsOk (stmt 
         span = l;
         params = i ∙ sym (exprs-size t s (c .next) ps);
         args = j ∙ sym (vec-size blankOperand (operand t) s m ops);
-        controls = k ∙ ap total (total-of _ c ms p) ∙ controls-is _;
+        controls = k ∙ ap or0 (total-of _ c ms p);
       }
 
 -- the text of a name

@@ -6,7 +6,7 @@ use mathlib.Core.Option.{Option, none, some}
 use lib.ListN.{length, getD}
 use lib.Dec.{eqb}
 use Rattle.span.specs.declared.Span.{Span}
-use Rattle.ast.specs.Tree.{Text, noExpr}
+use Rattle.ast.specs.Tree.{Text, noExpr, exprCount}
 use Rattle.gates.specs.Gates.{lower, signatureOf}
 use Rattle.gates.specs.declared.Signature.{Signature}
 use Rattle.tree.specs.Ans.{nextOf}
@@ -18,15 +18,9 @@ use Rattle.sema.specs.Messages.{Message, Note, Diagnostic, Error, error}
 use Rattle.sema.specs.Symbols.{GateSig, Table}
 use Rattle.sema.specs.Constants.{controls}
 use Rattle.sema.specs.Operands.{unless}
-use Rattle.sema.specs.Exprs.{count}
 use Rattle.context.specs.View.{numberAt, spanAt}
 use Rattle.accepted.specs.Parts.{valueOr}
 use Rattle.operations.specs.declared.calls.Call.{Call}
-
--- a control total, or 0
-unfoldable pub total : Option ℕ → ℕ
-total none = 0
-total (some n) = n
 
 -- the call at a place: where its parts stand, and how many they are
 pub record CallOf (t : List Text) (s : List ℕ) (at : ℕ) (c : Call) : Type 0 where
@@ -35,7 +29,7 @@ pub record CallOf (t : List Text) (s : List ℕ) (at : ℕ) (c : Call) : Type 0 
   pub args-at : c .«args_at» ≡ nextOf (exprs (held t) s (c .«params_at»))
   pub end : c .end ≡ nextOf (vec (operand t) s (c .«args_at»))
   pub span : c .span ≡ spanAt s (c .end)
-  pub params : c .params ≡ count (valueOr noExpr (exprs (held t) s (c .«params_at»)))
+  pub params : c .params ≡ exprCount (valueOr noExpr (exprs (held t) s (c .«params_at»)))
   pub args : c .args ≡ length (valueOr [] (vec (operand t) s (c .«args_at»)))
   pub controls : c .controls ≡ controls (valueOr [] (vec (modifier t) s (at + 3)))
 

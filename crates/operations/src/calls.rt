@@ -5,6 +5,7 @@ ghost use mathlib.Core.List.{[], _++_};
 ghost use Prim.Native.Nat.{_+_, _≤_, _<_};
 ghost use lib.ListN.{length, getD};
 ghost use lib.Dec.{eqb};
+ghost use Rattle.sema.specs.Constants.{or0};
 ghost use Rattle.ast.specs.Tree.{noExpr};
 ghost use Rattle.tree.specs.Ans.{IsOk, nextOf};
 ghost use Rattle.tree.specs.Read.{vec};
@@ -22,7 +23,7 @@ ghost use Rattle.lines.specs.Values.{secondaryOf, NoteBelow};
 ghost use Rattle.promises.specs.Emitted.{Emitted};
 ghost use Rattle.promises.specs.Typings.{plainContext};
 ghost use Rattle.promises.specs.Walks.{Walkable};
-ghost use Rattle.operations.specs.Calls.{CallOf, total, paramsBy, qubitsBy, arityBy, standardOf, signatureBy};
+ghost use Rattle.operations.specs.Calls.{CallOf, paramsBy, qubitsBy, arityBy, standardOf, signatureBy};
 use accepted::exprs::skip_exprs;
 use accepted::numbers::span_at;
 use accepted::numbers::u16_at;
@@ -53,7 +54,7 @@ pub struct Call {
 
 // 0 for arity where there is no total.
 fn total_or_0(controls: Total) -> u64
-    ensures { λ r. ⌜ r ≡ total (totalOf controls) ⌝ }
+    ensures { λ r. ⌜ r ≡ or0 (totalOf controls) ⌝ }
 {
     let Total::Some(n) = controls else {
         return 0;

@@ -3,7 +3,7 @@
 -- standing. Assumes nothing.
 use Prim.Native.Nat.{ℕ}
 use mathlib.Core.Path.{_≡_, refl, sym, ap, _∙_}
-use mathlib.Core.Bool.{Bool, true, false, cond}
+use mathlib.Core.Bool.{Bool, true, false, cond, true≢false}
 use mathlib.Core.Option.{Option, none, some}
 use mathlib.Core.List.{List, [], _∷_, _++_}
 use native.Mathlib.Omega.{arith}
@@ -52,9 +52,6 @@ clean-texts (x ∷ t) h = (clean-text x (h .0), clean-texts t (h .1))
 clash : (i : ℕ) (a b : List ℕ) → eqb (getD a i 0) (getD b i 0) ≡ false → a ≡ b → ⊥
 clash i a b h e = eqb-false (getD a i 0) (getD b i 0) h (ap (λ (l : List ℕ). getD l i 0) e)
 
-never : true ≡ false → ⊥
-never e = let z : _≡_ {A = ℕ} 0 1 = cc in omega arith
-
 module _ (t : List Text) where
   other : (m : Message) → isUse Error m ≡ false → (tail : List ℕ) → messageText t m ≡ useText tail → ⊥
   unfolding messageParts contextName
@@ -66,8 +63,8 @@ module _ (t : List Text) where
   other (Messages.cannotIndex name) h tail e = clash 0 _ _ refl e
   other (Messages.sliceOutOfBounds start end name size) h tail e = clash 0 _ _ refl e
   other (Messages.cannotSlice name) h tail e = clash 0 _ _ refl e
-  other (Messages.usedIndex name index) h tail e = absurd (never h)
-  other (Messages.used op) h tail e = absurd (never h)
+  other (Messages.usedIndex name index) h tail e = absurd (true≢false h)
+  other (Messages.used op) h tail e = absurd (true≢false h)
   other (Messages.constWithoutInit name) h tail e = clash 0 _ _ refl e
   other (Messages.inputWithInit name) h tail e = clash 0 _ _ refl e
   other (Messages.cannotInitialize ty name actual) h tail e = clash 0 _ _ refl e
@@ -149,7 +146,7 @@ module _ (t : List Text) where
           λ e. (line-span (text "E") (text "E") (d .span) sp _ _ ((λ x. omega arith), tt) ((λ x. omega arith), tt) e, line-message (text "E") (text "E") (d .span) sp _ _ ((λ x. omega arith), tt) ((λ x. omega arith), tt) e),
           λ w. cc (w .0, w .1),
         )
-        go Warning h = absurd (never (sym h))
+        go Warning h = absurd (true≢false (sym h))
 
     counted-lines : (ds : List Diagnostic) → count (isLine (useLine sp tail)) (diagnosticLines t ds) ≡ count (prints t sp (useText tail)) (useLines ds)
     unfolding diagnosticLines

@@ -4,7 +4,7 @@ use mathlib.Core.List.{List, [], _∷_, map}
 use mathlib.Core.Option.{none, some}
 use mathlib.Core.Logic.{inl, inr}
 use Rattle.text.specs.Text.{text}
-use Rattle.ast.specs.Tree.{Stmt, Program}
+use Rattle.ast.specs.Tree.{Stmt, Program, exprCount}
 use Rattle.ast.specs.Build.{nth, block, whole, index, slice, qubit, measure, reset, h, if, ifElse, while}
 use Rattle.sema.specs.Messages
 use Rattle.types.specs.Types.{assignableTo}
@@ -13,7 +13,7 @@ use Rattle.sema.specs.Symbols.{Symbols, insert, get, getCurrent, declare, decla
 use Rattle.sema.specs.Marks.{inSlice, isIndex, sizeOf, belowSize, measures, resets, markMeasured, clearMeasured, effect, mark, apply, unite, afterLoop, lookupMeasured, firstCovered, smallestCovered}
 use Rattle.sema.specs.Constants.{addControls, modifierControlCount, controls}
 use Rattle.sema.specs.Operands.{fits, isGateQubit, indexSays, sliceSays, boundsSay, checkOperand, sliceWidth, widthBy, operandWidth, usedSays, usedIndexSays, useBy, useOperands}
-use Rattle.sema.specs.Exprs.{exprSpan, mismatch, checkExpr, requireType, checkModifiers, count as countArguments}
+use Rattle.sema.specs.Exprs.{exprSpan, mismatch, checkExpr, requireType, checkModifiers}
 use Rattle.sema.specs.Stmts.{aritySays, paramsSay, wide, registerWidths, allEqual, widthsSay, measureTarget, measureSays, standardSays, signatureSays, gateSays, gateCallSays, analyzeStmt, analyze}
 use Rattle.paths.specs.Places.{place, placesOf}
 use Rattle.paths.specs.Errors.{Line, line, useLines, ErrsOn, Number, nil, one}
@@ -70,7 +70,7 @@ rows : List Row
 rows = one-armed ∷ past-arm ∷ past-loop ∷ loop-body ∷ both-arms ∷ other-arm ∷ equal-operands ∷ slice-index ∷ whole-key ∷ gate-body ∷ []
 
 computed : Row → Row
-unfolding assignableTo gates lower lookup signatureOf insert get getCurrent declare declareSays after insertAll gateScope loopScope inSlice isIndex sizeOf belowSize measures resets markMeasured clearMeasured effect mark apply unite afterLoop lookupMeasured firstCovered smallestCovered addControls modifierControlCount controls fits isGateQubit indexSays sliceSays boundsSay checkOperand sliceWidth widthBy operandWidth usedSays usedIndexSays useBy useOperands exprSpan mismatch checkExpr requireType checkModifiers countArguments aritySays paramsSay wide registerWidths allEqual widthsSay measureTarget measureSays standardSays signatureSays gateSays gateCallSays analyzeStmt analyze
+unfolding assignableTo gates lower lookup signatureOf insert get getCurrent declare declareSays after insertAll gateScope loopScope inSlice isIndex sizeOf belowSize measures resets markMeasured clearMeasured effect mark apply unite afterLoop lookupMeasured firstCovered smallestCovered addControls modifierControlCount controls fits isGateQubit indexSays sliceSays boundsSay checkOperand sliceWidth widthBy operandWidth usedSays usedIndexSays useBy useOperands exprSpan mismatch checkExpr requireType checkModifiers exprCount aritySays paramsSay wide registerWidths allEqual widthsSay measureTarget measureSays standardSays signatureSays gateSays gateCallSays analyzeStmt analyze
 computed r = record { statements = r .statements; lines = useLines (analyze (program (r .statements))) }
 
 rows-hold : map computed rows ≡ rows

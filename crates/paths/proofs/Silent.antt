@@ -8,7 +8,7 @@ use mathlib.Core.List.{List, [], _∷_, _++_}
 use lib.ListN.{length}
 use lib.Dec.{eqb, ltb, leb}
 use Rattle.span.specs.declared.Span.{Span}
-use Rattle.ast.specs.Tree.{TextNumber, Expr, Exprs, noExpr, moreExpr, GateOperand, GateModifier}
+use Rattle.ast.specs.Tree.{TextNumber, Expr, Exprs, noExpr, moreExpr, GateOperand, GateModifier, exprCount}
 use Rattle.ast.specs.declared.ClassicalType.{ClassicalType}
 use Rattle.types.specs.Types.{numberOf, assignableTo, numeric}
 use Rattle.sema.specs.Messages
@@ -17,7 +17,7 @@ use Rattle.sema.specs.Symbols.{Symbols, Symbol, FunctionSig, Table, get}
 use Rattle.int128.specs.Whole.{positive}
 use Rattle.sema.specs.Constants.{evalConstInt}
 use Rattle.sema.specs.Operands.{unless, isSome, fits, isGateQubit, indexSays, sliceSays, boundsSay, checkOperand}
-use Rattle.sema.specs.Exprs.{Typing, exprSpan, identType, bitIndexType, indexType, negType, arithmeticType, compareType, mismatch, notNumeric, argumentSays, rest, count, checkExpr, checkAll, checkArguments, requireType, requireNumeric, controlSays, checkModifier, checkModifiers}
+use Rattle.sema.specs.Exprs.{Typing, exprSpan, identType, bitIndexType, indexType, negType, arithmeticType, compareType, mismatch, notNumeric, argumentSays, rest, checkExpr, checkAll, checkArguments, requireType, requireNumeric, controlSays, checkModifier, checkModifiers}
 use Rattle.paths.specs.Errors.{Line, line, isUse, useLines}
 
 pub useLines-append : (a b : List Diagnostic) → useLines (a ++ b) ≡ useLines a ++ useLines b
@@ -164,7 +164,7 @@ module _ (ss : Symbols) (fs : Table FunctionSig) where
     quiet-expr (Expr.Index x i sp) = quiet-option (get ss x) (quiet (silent refl)) (λ sym. quiet-index x i sp sym (sym .kind))
     quiet-expr (Expr.Call x args sp) =
         quiet-option (fs x) (quiet (silent (silent-all args .none-counted)))
-        (λ sig. quiet (silent-append (silent-unless (eqb (count args) (length (sig .params))) (silent refl)) (silent-arguments args x 0 (sig .params))))
+        (λ sig. quiet (silent-append (silent-unless (eqb (exprCount args) (length (sig .params))) (silent refl)) (silent-arguments args x 0 (sig .params))))
     quiet-expr (Expr.Const c sp) = quiet (silent refl)
     quiet-expr (Expr.Neg e sp) = quiet (silent-append (quiet-expr e .says) (quiet-neg sp (checkExpr ss fs e .type) .says))
     quiet-expr (Expr.BinOp op l r sp) =

@@ -7,7 +7,7 @@ use mathlib.Core.List.{List, [], _∷_, map}
 use lib.ListN.{length, getD}
 use lib.Dec.{eqb}
 use Rattle.span.specs.declared.Span.{Span}
-use Rattle.ast.specs.Tree.{Text, TextNumber, Expr, Exprs, noExpr, moreExpr, GateOperand, GateModifier, ForRange}
+use Rattle.ast.specs.Tree.{Text, TextNumber, Expr, Exprs, noExpr, moreExpr, GateOperand, GateModifier, ForRange, exprCount}
 use Rattle.ast.specs.declared.ClassicalType.{ClassicalType}
 use Rattle.ast.specs.declared.ClassicalQualifier.{ClassicalQualifier}
 use Rattle.ast.specs.declared.AssignOp.{AssignOp}
@@ -20,7 +20,7 @@ use Rattle.sema.specs.Symbols.{Symbols, FunctionSig, Table, get, getCurrent, de
 use Rattle.sema.specs.Marks.{lookupMeasured}
 use Rattle.sema.specs.Constants.{controls}
 use Rattle.sema.specs.Operands.{isSome, operandWidth}
-use Rattle.sema.specs.Exprs.{count, checkExpr}
+use Rattle.sema.specs.Exprs.{checkExpr}
 use Rattle.sema.specs.Stmts.{SemaContext, isConst, isInput, isAssign, initSays, classicalSays, assignSays, targetSays, assignmentSays, arityError, aritySays, paramsSay, allEqual, widthsSay, measureTarget, measureSays, stepSays, rangeSays, gateSays, defineFunction, functionSays, standardSays, signatureSays}
 use Rattle.paths.proofs.Silent.{Silent, silent, silent-append, silent-unless, silent-option, silent-operand, quiet-expr, silent-mismatch, silent-require, silent-require-numeric}
 
@@ -75,7 +75,7 @@ silent-arity : (x : TextNumber) (p q : ℕ) (decl : Option Span) (params : Exprs
     → Silent (aritySays x p q decl params ms args sp)
 unfolding aritySays
 silent-arity x p q decl params ms args sp =
-    silent-append (silent-unless (eqb (count params) p) (silent-arity-error _ (λ z. silent refl) sp x decl))
+    silent-append (silent-unless (eqb (exprCount params) p) (silent-arity-error _ (λ z. silent refl) sp x decl))
     (silent-unless (eqb (length args) (q + controls ms)) (silent-arity-error _ (λ z. silent refl) sp x decl))
 
 pub silent-params : (c : SemaContext) (es : Exprs) → Silent (paramsSay c es)

@@ -6,6 +6,7 @@ use mathlib.Core.List.{List, _∷_, _++_}
 use mathlib.Core.Logic.{_⊎_, inl, inr, _↔_}
 use lib.Dec.{T}
 use Prim.Native.Nat.{ℕ}
+use Rattle.text.proofs.Tests.{or-either}
 use Rattle.span.specs.declared.Span.{Span}
 use Rattle.ast.specs.Tree.{TextNumber, Stmt}
 use Rattle.sema.specs.Symbols.{Symbols, orElse}
@@ -96,15 +97,11 @@ module _ {I C D : Type 0} (M₁ M₂ M : Marks) (st : I → State) (l : C → Li
 
 -- ── Covering ──
 
-T-or : (a b : Bool) → T (a || b) ↔ (T a ⊎ T b)
-T-or true b = (λ h. inl tt, λ w. tt)
-T-or false b = (λ h. inr h, λ w. let go : (⊥ ⊎ T b) → T b = elim [ inl x ↦ absurd x | inr y ↦ y ] in go w)
-
 -- the analysis finds a covering mark where one stands on some path
 module _ {I : Type 0} (M : Marks) (st : I → State) (S : Sound M st) (ss : Symbols) (x : TextNumber) where
   cover-into : (i : ℕ) → T (isSome (M (key x (some i)))) ⊎ T (isSome (M (key x none))) → (j : I) × T (covers ss (st j) x (some i))
-  cover-into i (inl h) = let w = S (key x (some i)) .0 h in (w .0, T-or (st (w .0) (key x (some i))) (st (w .0) (key x none)) .1 (inl (w .1)))
-  cover-into i (inr h) = let w = S (key x none) .0 h in (w .0, T-or (st (w .0) (key x (some i))) (st (w .0) (key x none)) .1 (inr (w .1)))
+  cover-into i (inl h) = let w = S (key x (some i)) .0 h in (w .0, or-either (st (w .0) (key x (some i))) (st (w .0) (key x none)) .1 (inl (w .1)))
+  cover-into i (inr h) = let w = S (key x none) .0 h in (w .0, or-either (st (w .0) (key x (some i))) (st (w .0) (key x none)) .1 (inr (w .1)))
 
   cover-out : (i : ℕ) (j : I) → T (st j (key x (some i))) ⊎ T (st j (key x none)) → T (isSome (M (key x (some i)))) ⊎ T (isSome (M (key x none)))
   cover-out i j (inl h) = inl (S (key x (some i)) .1 (j, h))
@@ -115,5 +112,5 @@ module _ {I : Type 0} (M : Marks) (st : I → State) (S : Sound M st) (ss : Symb
   cover none = S (key x none)
   cover (some i) = (
     λ h. cover-into i (isSome-orElse (M (key x (some i))) (M (key x none)) .0 h),
-    λ w. isSome-orElse (M (key x (some i))) (M (key x none)) .1 (cover-out i (w .0) (T-or (st (w .0) (key x (some i))) (st (w .0) (key x none)) .0 (w .1))),
+    λ w. isSome-orElse (M (key x (some i))) (M (key x none)) .1 (cover-out i (w .0) (or-either (st (w .0) (key x (some i))) (st (w .0) (key x none)) .0 (w .1))),
   )

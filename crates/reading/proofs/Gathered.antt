@@ -10,21 +10,22 @@ use lib.ListN.{length, getD, take, drop, set, length-set, length-take}
 use lib.Seq.{take-suc-set}
 use lib.Dec.{leb}
 use borrow.Author.Tests.{le-leb, lt-leb}
+use Rattle.tree.specs.AnsLaws.{never-ok}
 use Rattle.ast.specs.Tree.{Text}
 use Rattle.tree.specs.Limits.{textsLimit, textLimit}
 use Rattle.tree.specs.Ans.{ok, refused, bind, _>>=_, _>>_, done, here, refuse, check, given}
 use Rattle.tree.specs.Read.{number}
-use Rattle.tree.specs.Texts.{allowed, among, text, moreTexts, texts}
+use Rattle.tree.specs.Texts.{allowed, among, text, moreTexts, texts, textAt, past}
 use Rattle.tree.proofs.Steps.{byte-in, byte-end, number-in, number-end}
 use Rattle.reading.specs.Answers.{forget, gaveNumber}
-use Rattle.reading.specs.Section.{textAt, past, textsFrom, pastTexts, textCount, kindOf, kindsOf, checksum, Gathered}
+use Rattle.reading.specs.Section.{textsFrom, pastTexts, textCount, kindOf, kindsOf, checksum, Gathered}
 use Rattle.tree.specs.Decode.{textsOf}
 use Rattle.reading.specs.declared.answers.Read.{Read}
 use Rattle.reading.specs.declared.answers.Read.the-variants.{At, Refused}
 use Rattle.reading.specs.declared.answers.ReadNumber.{ReadNumber}
 use Rattle.reading.proofs.Taken.{number-ok, number-not}
-use Rattle.reading.proofs.Leaves.{le-or-lt}
-use Rattle.reading.proofs.Values.{not-both, never-ok, bind-refused, bind-into}
+use Rattle.text.proofs.Order.{le-or-lt}
+use Rattle.reading.proofs.Values.{not-both, bind-refused, bind-into}
 use Rattle.reading.proofs.Section.{Judged, bytes-judged, text-part, empty-is, long-is, cut-is, whole-is, text-after}
 
 -- one text more from a place on

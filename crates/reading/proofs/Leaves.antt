@@ -9,9 +9,12 @@ use native.Mathlib.Nat.{pow-suc, pow-le-pow-right}
 use lib.ListN.{length, getD, take, drop}
 use lib.Seq.{drop-cons}
 use borrow.Author.Tests.{lt-ltb, le-ltb, le-leb, lt-leb}
+use Rattle.text.specs.Big.{value}
 use Rattle.tree.specs.Limits.{vecLimit}
 use Rattle.tree.specs.Ans.{bind, _>>=_, _>>_, done, here, refuse, check}
-use Rattle.tree.specs.Read.{value, byte, number, span, caseByte, count}
+use Rattle.tree.specs.Read.{byte, number, span, caseByte, count}
+use Rattle.text.proofs.Order.{le-or-lt}
+use Rattle.text.proofs.Clamp.{none-of}
 use Rattle.tree.proofs.Steps.{byte-in, byte-end, number-in, number-end}
 use Rattle.reading.proofs.Taken.{byte-ok, byte-not}
 use Rattle.reading.specs.Answers.{gaveByte, gaveNumber, gaveSpan}
@@ -19,25 +22,12 @@ use Rattle.reading.specs.declared.answers.ReadByte.{ReadByte}
 use Rattle.reading.specs.declared.answers.ReadNumber.{ReadNumber}
 use Rattle.reading.specs.declared.answers.ReadSpan.{ReadSpan}
 
--- how two numbers compare
-pub le-or-lt : (a b : ℕ) → (a ≤ b) ⊎ (b < a)
-le-or-lt zero b = inl (omega arith)
-le-or-lt (suc a) zero = inr (omega arith)
-le-or-lt (suc a) (suc b) = step (le-or-lt a b)
-  where
-    step : (a ≤ b) ⊎ (b < a) → (suc a ≤ suc b) ⊎ (suc b < suc a)
-    step (inl h) = inl (omega arith)
-    step (inr h) = inr (omega arith)
-
 -- the bytes from a place to another begin with the first
 pub part-cons : (s : List ℕ) (k e : ℕ) → k < e → e ≤ length s → take (e - k) (drop k s) ≡ getD s k 0 ∷ take (e - (k + 1)) (drop (k + 1) s)
 part-cons s k e h g =
     let l : k < length s = omega arith in
     let n : e - k ≡ suc (e - (k + 1)) = omega arith in
     rw (n, drop-cons s k 0 l, add-one)
-
-pub part-none : (s : List ℕ) (k e : ℕ) → e ≤ k → take (e - k) (drop k s) ≡ []
-part-none s k e h = let n : e - k ≡ 0 = omega arith in rw n
 
 -- a number while its bytes are read: `n` of those before `k`
 pub record Counting (s : List ℕ) (at end n k : ℕ) : Type 0 where
@@ -81,7 +71,7 @@ module _ (s : List ℕ) (at end : ℕ) where
     unfolding value
     counting-end h =
         let z : k ≡ end = omega (arith, so .within) in
-        (sym (so .remain ∙ rw (part-none s k end h) refl), rw z at (so .low))
+        (sym (so .remain ∙ rw (none-of s k end h) refl), rw z at (so .low))
 
 -- four bytes fit half the room
 pub four-fit : (at n : ℕ) → n < 256 ^ (at + 4 - at) → n < 4294967296

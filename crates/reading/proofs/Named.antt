@@ -2,12 +2,13 @@
 use Prim.Native.Nat.{ℕ, _<_, _≤_}
 use mathlib.Core.Path.{_≡_, refl, sym, ap, _∙_}
 use mathlib.Core.List.{List, [], _∷_}
-use mathlib.Core.Bool.{Bool, true, false, _&&_, and-false, false≢true}
+use mathlib.Core.Bool.{Bool, true, false, _&&_, and-false, and-eq-true-iff, false≢true}
 use mathlib.Core.Logic.{_⊎_, inl, inr}
 use native.Mathlib.Omega.{arith}
 use lib.ListN.{length, getD, length-map, List·getD-map}
 use lib.Dec.{eqb, ltb, leb}
 use borrow.Author.Tests.{lt-ltb, le-ltb, eq-eqb, ne-eqb, lt-leb}
+use Rattle.tree.specs.AnsLaws.{never-ok}
 use Rattle.ast.specs.Tree.{Text}
 use Rattle.tree.specs.Ans.{Ans, ok, refused, bind, _>>=_, _>>_, done, here, refuse, check}
 use Rattle.tree.specs.Read.{number}
@@ -19,8 +20,8 @@ use Rattle.tree.specs.Decode.{textsOf}
 use Rattle.reading.specs.declared.answers.ReadNumber.{ReadNumber}
 use Rattle.reading.specs.declared.answers.ReadText.{ReadText}
 use Rattle.reading.proofs.Taken.{number-same, text-ok, text-not}
-use Rattle.reading.proofs.Leaves.{le-or-lt}
-use Rattle.reading.proofs.Values.{never-ok, bind-into}
+use Rattle.text.proofs.Order.{le-or-lt}
+use Rattle.reading.proofs.Values.{bind-into}
 use Rattle.reading.proofs.Spelled.{letter-below}
 
 -- the tests on a number
@@ -128,11 +129,7 @@ not-digit c h = go (le-or-lt 65 c)
 no-float : (x : Text) → isName x ≡ true → isFloat x ≡ false
 unfolding isName isFloat
 no-float [] h = refl
-no-float (c ∷ cs) h = rw (not-digit c (and-first (letter c) _ h))
-  where
-    and-first : (a b : Bool) → (a && b) ≡ true → a ≡ true
-    and-first true b e = refl
-    and-first false b e = e
+no-float (c ∷ cs) h = rw (not-digit c (and-eq-true-iff (letter c) _ .0 h .0))
 
 module _ (s : List ℕ) (at : ℕ) (t : List Text) (r : ReadText) where
   pub name-is : r ≡ gaveText (textNumber t (ofKind 1) s at) → r ≡ gaveText (textNumber t isName s at)

@@ -8,14 +8,14 @@ use native.Mathlib.Numerals.{add-one, sub-one}
 use lib.ListN.{length, getD, drop, drop-of-length-le, length-drop}
 use lib.Seq.{drop-cons}
 use lib.Dec.{T, eqb}
-use borrow.Author.Tests.{eq-eqb, ne-eqb, eqb-true, eqb-false}
+use borrow.Author.Tests.{eq-eqb, ne-eqb, eqb-true, eqb-false, not-true}
+use Rattle.text.specs.Text.{same}
 use Rattle.ast.specs.Tree.{Text}
-use Rattle.tree.specs.Texts.{same, among}
-use Rattle.reading.specs.Section.{textAt, past, textsFrom, pastTexts, checksum, hasSum}
+use Rattle.tree.specs.Texts.{among, textAt, past}
+use Rattle.reading.specs.Section.{textsFrom, pastTexts, checksum, hasSum}
 
 -- texts of which something differs are different
 texts-differ : (f : Text → ℕ) (x y : Text) → (f x ≡ f y → ⊥) → false ≡ same x y
-unfolding same
 texts-differ f [] [] d = absurd (d refl)
 texts-differ f [] (b ∷ y) d = refl
 texts-differ f (a ∷ x) [] d = refl
@@ -38,12 +38,8 @@ no-sum x (t ∷ ts) e = go (eqb (checksum x) (checksum t)) refl (no-sum x ts) e
     go true f rest h = absurd (subst T h tt)
     go false f rest h = rw (← text-other x t (checksum x) (checksum t) refl refl (eqb-false (checksum x) (checksum t) f)) (rest h)
 
-not-false : (r : Bool) → not r ≡ true → r ≡ false
-not-false false e = refl
-not-false true e = absurd (subst T (sym e) tt)
-
 pub not-repeated : (s : List ℕ) (x : Text) (n : ℕ) (sums : List ℕ) (sum : ℕ) → sums ≡ map checksum (textsFrom s n 2) → sum ≡ checksum x → (r : Bool) → r ≡ hasSum sum sums → not r ≡ true → false ≡ among x (textsFrom s n 2)
-not-repeated s x n sums sum e f r g h = no-sum x (textsFrom s n 2) (rw (← e, ← f) (sym g ∙ not-false r h))
+not-repeated s x n sums sum e f r g h = no-sum x (textsFrom s n 2) (rw (← e, ← f) (sym g ∙ not-true r h))
 
 -- one more is asked
 pub or-same : (found : Bool) (sum other : ℕ) → sum ≡ other → true ≡ (eqb sum other || found)

@@ -11,14 +11,15 @@ use Rattle.ast.specs.Tree.{Text}
 use Rattle.tree.specs.Limits.{textLimit}
 use Rattle.tree.specs.Ans.{Ans, ok, refused, bind, _>>=_, _>>_, done, here, refuse, check}
 use Rattle.tree.specs.Read.{byte, bytes, within}
-use Rattle.tree.specs.Texts.{allowed, among, text, between, every}
+use Rattle.tree.specs.Texts.{allowed, among, text, between, every, textAt, past}
 use Rattle.reading.specs.Answers.{forget, gaveByte, byteAnswer}
-use Rattle.reading.specs.Section.{textAt, past}
 use Rattle.reading.specs.declared.answers.Read.{Read}
 use Rattle.reading.specs.declared.answers.Read.the-variants.{At, Refused}
 use Rattle.reading.specs.declared.answers.ReadByte.{ReadByte}
 use Rattle.reading.proofs.Taken.{byte-ok}
-use Rattle.reading.proofs.Leaves.{le-or-lt, part-cons, part-none}
+use Rattle.text.proofs.Order.{le-or-lt}
+use Rattle.text.proofs.Clamp.{none-of}
+use Rattle.reading.proofs.Leaves.{part-cons}
 use Rattle.reading.proofs.Values.{bind-into, byte-ends-it}
 
 -- an allowed byte
@@ -66,7 +67,7 @@ unfolding every
 bad-there s k end bad = go (le-or-lt end k)
   where
     go : (end ≤ k) ⊎ (k < end) → k < end
-    go (inl h) = absurd (false≢true (sym bad ∙ rw (part-none s k end h) refl))
+    go (inl h) = absurd (false≢true (sym bad ∙ rw (none-of s k end h) refl))
     go (inr h) = h
 
 pub seeking-start : (s : List ℕ) (at end : ℕ) (r : Bool) → r ≡ every (between 33 126) (take (end - at) (drop at s)) → r ≡ false → Seeking s at end at

@@ -4,18 +4,16 @@ use mathlib.Core.Path.{_≡_, refl, sym, ap, _∙_}
 use mathlib.Core.List.{List, [], _∷_}
 use mathlib.Core.Bool.{Bool, true, false, _&&_, _||_, or-false, and-false, and-true, and-comm, and-assoc}
 use native.Mathlib.Omega.{arith}
-use native.Mathlib.Nat.{mod-lt}
+use native.Mathlib.Nat.{mod-lt, le-refl}
 use native.Mathlib.Numerals.{add-one}
 use lib.ListN.{length, getD, take, drop, drop-of-length-le, length-drop}
 use lib.Seq.{drop-cons, take-all}
 use lib.Dec.{eqb}
 use borrow.Author.Tests.{le-leb, lt-leb, eq-eqb, ne-eqb}
-use Rattle.tree.specs.Texts.{letter, digit, every, digits, fraction, isName, isFloat, same}
+use Rattle.text.specs.Text.{same}
+use Rattle.text.proofs.Clamp.{rest-of}
+use Rattle.tree.specs.Texts.{letter, digit, every, digits, fraction, isName, isFloat}
 use Rattle.reading.specs.Section.{kindBy, kindOf, mix, fourAt, sumFrom, checksum}
-
--- the part of a slice from a place on
-rest : (x : List ℕ) (i : ℕ) → take (length x - i) (drop i x) ≡ drop i x
-rest x i = take-all (length x - i) (drop i x) (omega (arith, length-drop i x))
 
 -- letters and digits
 module _ (c : ℕ) where
@@ -95,7 +93,7 @@ module _ (x : List ℕ) (i : ℕ) (inv : fraction x ≡ fraction (drop i x)) whe
 
   pub fraction-point : i < length x → (r : Bool) → r ≡ digit (getD x i 0) → r ≡ false → getD x i 0 ≡ 46 → (q : Bool) → q ≡ digits (take (length x - (i + 1)) (drop (i + 1) x)) → q ≡ fraction x
   unfolding fraction
-  fraction-point h r e g c q f = f ∙ ap digits (rest x (i + 1)) ∙ sym (inv ∙ rw (drop-cons x i 0 h, sym e, g, c, add-one) refl)
+  fraction-point h r e g c q f = f ∙ ap digits (rest-of x (i + 1) (length x) (le-refl (length x))) ∙ sym (inv ∙ rw (drop-cons x i 0 h, sym e, g, c, add-one) refl)
 
   pub fraction-stop : i < length x → (r : Bool) → r ≡ digit (getD x i 0) → r ≡ false → (getD x i 0 ≡ 46 → ⊥) → false ≡ fraction x
   unfolding fraction
@@ -135,7 +133,7 @@ module _ (x : List ℕ) where
 
   pub name-first : (length x ≡ 0 → ⊥) → (r : Bool) → r ≡ letter (getD x 0 0) → r ≡ true → (q : Bool) → q ≡ every (λ c. (true && letter c) || digit c) (take (length x - 1) (drop 1 x)) → q ≡ isName x
   unfolding isName
-  name-first h r e g q f = go x h (sym e ∙ g) (rw (rest x 1) at f)
+  name-first h r e g q f = go x h (sym e ∙ g) (rw (rest-of x 1 (length x) (le-refl (length x))) at f)
     where
       go : (x : List ℕ) → (length x ≡ 0 → ⊥) → letter (getD x 0 0) ≡ true → q ≡ every (λ c. letter c || digit c) (drop 1 x) → q ≡ isName x
       go [] h l f = absurd (h refl)
@@ -159,7 +157,7 @@ module _ (x : List ℕ) where
 
   pub float-first : (length x ≡ 0 → ⊥) → (r : Bool) → r ≡ digit (getD x 0 0) → r ≡ true → (q : Bool) → q ≡ fraction (take (length x - 1) (drop 1 x)) → q ≡ isFloat x
   unfolding isFloat
-  float-first h r e g q f = go x h (sym e ∙ g) (rw (rest x 1) at f)
+  float-first h r e g q f = go x h (sym e ∙ g) (rw (rest-of x 1 (length x) (le-refl (length x))) at f)
     where
       go : (x : List ℕ) → (length x ≡ 0 → ⊥) → digit (getD x 0 0) ≡ true → q ≡ fraction (drop 1 x) → q ≡ isFloat x
       go [] h l f = absurd (h refl)
@@ -233,7 +231,6 @@ pub ruleset summed = (summing-start, summing-four, summing-one, summing-end)
 
 -- two texts byte by byte
 pub same-lengths : (x y : List ℕ) → (length x ≡ length y → ⊥) → false ≡ same x y
-unfolding same
 same-lengths [] [] h = absurd (h refl)
 same-lengths [] (d ∷ ds) h = refl
 same-lengths (c ∷ cs) [] h = refl
@@ -241,19 +238,16 @@ same-lengths (c ∷ cs) (d ∷ ds) h = rw (sym (same-lengths cs ds (λ e. h (ap 
 
 module _ (x y : List ℕ) (alike : Bool) (i : ℕ) (e : length x ≡ length y) (inv : same x y ≡ (alike && same (drop i x) (drop i y))) where
   pub same-more : i < length x → getD x i 0 ≡ getD y i 0 → (a : Bool) → a ≡ alike → same x y ≡ (a && same (drop (i + 1) x) (drop (i + 1) y))
-  unfolding same
   same-more h g a f =
       let k : i < length y = omega arith in
       inv ∙ rw (drop-cons x i 0 h, drop-cons y i 0 k, eq-eqb (getD x i 0) (getD y i 0) g, add-one, f) refl
 
   pub same-stop : i < length x → (getD x i 0 ≡ getD y i 0 → ⊥) → (a : Bool) → a ≡ false → same x y ≡ (a && same (drop (i + 1) x) (drop (i + 1) y))
-  unfolding same
   same-stop h g a f =
       let k : i < length y = omega arith in
       inv ∙ rw (drop-cons x i 0 h, drop-cons y i 0 k, ne-eqb (getD x i 0) (getD y i 0) g, and-false, f) refl
 
   pub same-end : length x ≤ i → alike ≡ same x y
-  unfolding same
   same-end h =
       let k : length y ≤ i = omega arith in
       sym (inv ∙ rw (drop-of-length-le x h, drop-of-length-le y k, and-true) refl)

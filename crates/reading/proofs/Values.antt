@@ -6,6 +6,7 @@ use mathlib.Core.Logic.{_⊎_, inl, inr}
 use native.Mathlib.Omega.{arith}
 use native.Mathlib.Numerals.{sub-one}
 use lib.ListN.{length, getD}
+use Rattle.tree.specs.AnsLaws.{never-ok}
 use Rattle.tree.specs.Ans.{Ans, ok, refused, Reader, bind, _>>=_, done, here}
 use Rattle.tree.specs.Read.{caseByte, oneOf, option, optionCase, repeat, count, counted, u64}
 use Rattle.tree.specs.Stmts.{slice}
@@ -16,15 +17,12 @@ use Rattle.reading.specs.declared.answers.Read.the-variants.{At, Refused
 use Rattle.reading.specs.declared.answers.ReadByte.{ReadByte}
 use Rattle.reading.specs.declared.answers.ReadText.{ReadText}
 use Rattle.reading.proofs.Taken.{byte-left, byte-refused, byte-ok, number-left, text-left, text-refused, text-at}
-use Rattle.reading.proofs.Leaves.{le-or-lt}
+use Rattle.text.proofs.Order.{le-or-lt}
 use Rattle.reading.proofs.Runs.{skip, runs, runs-refused, runs-last, runs-more, then, end, by}
 
 -- an answer is one of the two
 pub not-both : {r : Read} {k number place : ℕ} → r ≡ At k → r ≡ Refused number place → ⊥
 not-both e h = let z : _≡_ {A = ℕ} 0 1 = cc in omega arith
-
-pub never-ok : {A : Type 0} {x : Ans A} {v : A} {k number place : ℕ} → x ≡ ok v k → x ≡ refused number place → ⊥
-never-ok e h = let z : _≡_ {A = ℕ} 0 1 = cc in omega arith
 
 -- what comes behind a reader that was refused
 module _ {A B : Type 0} (x : Ans A) (f : A → ℕ → Ans B) (r : Read) where

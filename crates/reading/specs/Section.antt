@@ -9,17 +9,10 @@ use Rattle.ast.specs.Tree.{Text}
 use Rattle.tree.specs.Limits.{textsLimit}
 use Rattle.tree.specs.Ans.{Reader, _>>=_, _>>_, done, here, check}
 use Rattle.tree.specs.Read.{u16}
-use Rattle.tree.specs.Texts.{isName, isFloat, texts}
+use Rattle.tree.specs.Texts.{isName, isFloat, texts, textAt, past}
 use Rattle.tree.specs.Decode.{textsOf}
 use Rattle.reading.specs.declared.answers.Read.{Read}
 use Rattle.reading.specs.Answers.{forget}
-
--- the text whose length byte is at the place, and the place past it
-abbrev pub textAt : List ℕ → ℕ → Text
-textAt s at = take (getD s at 0) (drop (at + 1) s)
-
-abbrev pub past : List ℕ → ℕ → ℕ
-past s at = at + 1 + getD s at 0
 
 -- so many texts from a place on, and the place past them
 unfoldable pub textsFrom : List ℕ → ℕ → ℕ → List Text

@@ -7,7 +7,8 @@ use span::Span;
 ghost use mathlib.Core.Path.{_≡_};
 ghost use Prim.Native.Nat.{_≤_, _<_, _+_, _-_, _^_};
 ghost use lib.ListN.{length, take, drop};
-ghost use Rattle.tree.specs.Read.{value, byte, number, u16, u64, span, caseByte, option, count};
+ghost use Rattle.text.specs.Big.{value};
+ghost use Rattle.tree.specs.Read.{byte, number, u16, u64, span, caseByte, option, count};
 ghost use Rattle.tree.specs.Stmts.{slice};
 ghost use Rattle.reading.specs.Answers.{forget, gaveByte, gaveNumber, gaveSpan};
 

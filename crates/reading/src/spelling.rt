@@ -4,7 +4,8 @@ ghost use mathlib.Core.Path.{_≡_};
 ghost use Prim.Native.Nat.{_<_, _≤_, _+_, _^_};
 ghost use lib.ListN.{length};
 ghost use mathlib.Core.Bool.{_&&_, _||_};
-ghost use Rattle.tree.specs.Texts.{letter, digit, every, digits, fraction, isName, isFloat, same};
+ghost use Rattle.text.specs.Text.{same};
+ghost use Rattle.tree.specs.Texts.{letter, digit, every, digits, fraction, isName, isFloat};
 ghost use Rattle.reading.specs.Section.{kindOf, mix, fourAt, checksum as sumOf};
 
 pub const NEITHER: u8 = 0;

@@ -15,10 +15,11 @@ ghost use mathlib.Core.Bool.{_||_};
 ghost use lib.Dec.{eqb};
 ghost use mathlib.Core.List.{[], map};
 ghost use lib.ListN.{length, take, drop};
-ghost use Rattle.tree.specs.Texts.{between, every, allowed, same, among, text, isName, isFloat, isPath};
+ghost use Rattle.text.specs.Text.{same};
+ghost use Rattle.tree.specs.Texts.{between, every, allowed, among, text, isName, isFloat, isPath, textAt, past};
 ghost use Rattle.tree.specs.Exprs.{textNumber};
 ghost use Rattle.reading.specs.Answers.{forget, gaveNumber, gaveText};
-ghost use Rattle.reading.specs.Section.{textAt, past, textsFrom, pastTexts, textCount, ofKind, kindsOf, checksum, hasSum, Gathered};
+ghost use Rattle.reading.specs.Section.{textsFrom, pastTexts, textCount, ofKind, kindsOf, checksum, hasSum, Gathered};
 ghost use Rattle.tree.specs.Ans.{ok};
 ghost use Rattle.tree.specs.Decode.{textsOf};
 

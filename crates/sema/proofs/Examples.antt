@@ -5,7 +5,7 @@ use mathlib.Core.List.{List, [], _∷_, map}
 use mathlib.Core.Option.{none, some}
 use lib.ListN.{length}
 use Rattle.text.specs.Text.{text}
-use Rattle.ast.specs.Tree.{Expr, GateOperand, Stmt}
+use Rattle.ast.specs.Tree.{Expr, GateOperand, Stmt, exprCount}
 use Rattle.ast.specs.declared.ClassicalType.{ClassicalType}
 use Rattle.ast.specs.declared.ClassicalQualifier.{ClassicalQualifier}
 use Rattle.ast.specs.declared.BinOp.{BinOp}
@@ -21,9 +21,9 @@ use Rattle.sema.specs.Symbols.{insert, get, getCurrent, declare, declare
 use Rattle.sema.specs.Marks.{inSlice, isIndex, sizeOf, belowSize, measures, resets, markMeasured, clearMeasured, effect, mark, apply, unite, afterLoop, lookupMeasured, firstCovered, smallestCovered}
 use Rattle.sema.specs.Constants.{within, divide, power, operate, evalConstInt, asCount, countOf, addCount, addControls, modifierControlCount, controls}
 use Rattle.sema.specs.Operands.{fits, isGateQubit, indexSays, sliceSays, boundsSay, checkOperand, sliceWidth, widthBy, operandWidth, usedSays, usedIndexSays, useBy, useOperands}
-use Rattle.sema.specs.Exprs.{exprSpan, identType, bitIndexType, indexType, negType, arithmeticType, compareType, mismatch, notNumeric, argumentSays, rest, count, checkExpr, checkAll, checkArguments, requireType, requireNumeric, controlSays, checkModifier, checkModifiers}
+use Rattle.sema.specs.Exprs.{exprSpan, identType, bitIndexType, indexType, negType, arithmeticType, compareType, mismatch, notNumeric, argumentSays, rest, checkExpr, checkAll, checkArguments, requireType, requireNumeric, controlSays, checkModifier, checkModifiers}
 use Rattle.sema.specs.Stmts.{initSays, classicalSays, assignSays, targetSays, assignmentSays, aritySays, paramsSay, wide, registerWidths, allEqual, widthsSay, measureTarget, measureSays, stepSays, rangeSays, gateSays, defineFunction, functionSays, standardSays, signatureSays, gateCallSays, analyzeStmt, analyzeStmts, analyzeElse, analyze}
-use Rattle.sema.specs.Keys.{sameIndex, sameKey, hasKey, addKey, addIndices, addRange, sizeOr0, addMeasured, keysStmt, keysStmts, keysElse, keys}
+use Rattle.sema.specs.Keys.{sameIndex, sameKey, hasKey, addKey, addIndices, addRange, addMeasured, keysStmt, keysStmts, keysElse, keys}
 use lib.IntN.{pos, negsuc, pow as pow-int, one as one-int}
 
 pub record Row : Type 0 where
@@ -107,7 +107,7 @@ rows =
 
 -- a row as the definitions give it; text 1 is h, text 2 is x
 computed : Row → Row
-unfolding assignableTo arithmeticOf nameOf gates lower lookup signatureOf magnitudeOf limit checked quotient divided powered positive wordOf insert get getCurrent declare declareSays declKind after insertAll gateScope functionScope loopScope inSlice isIndex sizeOf belowSize measures resets markMeasured clearMeasured effect mark apply unite afterLoop lookupMeasured firstCovered smallestCovered within divide power operate evalConstInt asCount countOf addCount addControls modifierControlCount controls fits isGateQubit indexSays sliceSays boundsSay checkOperand sliceWidth widthBy operandWidth usedSays usedIndexSays useBy useOperands exprSpan identType bitIndexType indexType negType arithmeticType compareType mismatch notNumeric argumentSays rest count checkExpr checkAll checkArguments requireType requireNumeric controlSays checkModifier checkModifiers initSays classicalSays assignSays targetSays assignmentSays aritySays paramsSay wide registerWidths allEqual widthsSay measureTarget measureSays stepSays rangeSays gateSays defineFunction functionSays standardSays signatureSays gateCallSays analyzeStmt analyzeStmts analyzeElse analyze sameIndex sameKey hasKey addKey addIndices addRange sizeOr0 addMeasured keysStmt keysStmts keysElse keys pow-int one-int
+unfolding assignableTo arithmeticOf nameOf gates lower lookup signatureOf magnitudeOf limit checked quotient divided powered positive wordOf insert get getCurrent declare declareSays declKind after insertAll gateScope functionScope loopScope inSlice isIndex sizeOf belowSize measures resets markMeasured clearMeasured effect mark apply unite afterLoop lookupMeasured firstCovered smallestCovered within divide power operate evalConstInt asCount countOf addCount addControls modifierControlCount controls fits isGateQubit indexSays sliceSays boundsSay checkOperand sliceWidth widthBy operandWidth usedSays usedIndexSays useBy useOperands exprSpan identType bitIndexType indexType negType arithmeticType compareType mismatch notNumeric argumentSays rest exprCount checkExpr checkAll checkArguments requireType requireNumeric controlSays checkModifier checkModifiers initSays classicalSays assignSays targetSays assignmentSays aritySays paramsSay wide registerWidths allEqual widthsSay measureTarget measureSays stepSays rangeSays gateSays defineFunction functionSays standardSays signatureSays gateCallSays analyzeStmt analyzeStmts analyzeElse analyze sameIndex sameKey hasKey addKey addIndices addRange addMeasured keysStmt keysStmts keysElse keys pow-int one-int
 computed r =
     record {
       program = r .program;

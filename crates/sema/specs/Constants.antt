@@ -9,6 +9,11 @@ use Rattle.int128.specs.Whole.{limit, quotient}
 use Rattle.ast.specs.Tree.{Expr, GateModifier}
 use Rattle.ast.specs.declared.BinOp.{BinOp}
 
+-- the number, or 0
+abbrev pub or0 : Option ℕ → ℕ
+or0 none = 0
+or0 (some n) = n
+
 abbrev pub andThen : {A B : Type 0} → Option A → (A → Option B) → Option B
 andThen none f = none
 andThen (some a) f = f a
@@ -76,4 +81,4 @@ modifierControlCount ms = addControls (some 0) ms
 
 -- "If any count in the chain is below 1 or has no value, or the total exceeds 2^64 - 1, the total is 0 for arity."
 unfoldable pub controls : List GateModifier → ℕ
-controls ms = elim (modifierControlCount ms) [ none ↦ 0 | some n ↦ n ]
+controls ms = or0 (modifierControlCount ms)

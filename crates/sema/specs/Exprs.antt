@@ -6,7 +6,7 @@ use mathlib.Core.Bool.{Bool, false, cond, _&&_, _||_}
 use lib.ListN.{length}
 use lib.Dec.{eqb, ltb}
 use Rattle.span.specs.declared.Span.{Span}
-use Rattle.ast.specs.Tree.{TextNumber, Expr, Exprs, noExpr, moreExpr, GateModifier}
+use Rattle.ast.specs.Tree.{TextNumber, Expr, Exprs, noExpr, moreExpr, GateModifier, exprCount}
 use Rattle.ast.specs.declared.ClassicalType.{ClassicalType}
 use Rattle.types.specs.Types.{numberOf, assignableTo, numeric, larger}
 use Rattle.sema.specs.Messages
@@ -94,10 +94,6 @@ unfoldable pub rest : List ClassicalType → List ClassicalType
 rest [] = []
 rest (p ∷ ps) = ps
 
-unfoldable pub count : Exprs → ℕ
-count noExpr = 0
-count (moreExpr e es) = suc (count es)
-
 module _ (ss : Symbols) (fs : Table FunctionSig) where
   unfoldable mutual
     pub checkExpr : Expr → Typing
@@ -114,8 +110,8 @@ module _ (ss : Symbols) (fs : Table FunctionSig) where
           | some sig ↦ record {
             type = some (sig .return-type);
             says =
-                unless (eqb (count args) (length (sig .params)))
-                (errorWithNote (Messages.functionArguments x (length (sig .params)) (count args)) sp Messages.functionDefined (sig .decl-span))
+                unless (eqb (exprCount args) (length (sig .params)))
+                (errorWithNote (Messages.functionArguments x (length (sig .params)) (exprCount args)) sp Messages.functionDefined (sig .decl-span))
                 ++ checkArguments args x 0 (sig .params);
           }
         ]

@@ -5,6 +5,7 @@ use mathlib.Core.List.{List, [], _∷_, _++_}
 use mathlib.Core.Option.{Option, none, some}
 use mathlib.Core.Bool.{Bool, true, false, _&&_, _||_}
 use lib.Dec.{eqb}
+use Rattle.sema.specs.Constants.{or0}
 use Rattle.ast.specs.Tree.{TextNumber, Stmt, Stmts, noStmt, moreStmt, Else, noElse, someElse, Program}
 use Rattle.sema.specs.Limits.{keyLimit}
 use Rattle.sema.specs.Symbols.{Symbols, empty, get, after, gateScope, loopScope}
@@ -35,15 +36,11 @@ addIndices ks x (suc n) i = addIndices (addKey ks (key x (some i))) x n (suc i)
 unfoldable pub addRange : List Key → TextNumber → ℕ → ℕ → List Key
 addRange ks x i n = addIndices ks x (min n (suc keyLimit)) i
 
-unfoldable pub sizeOr0 : Option ℕ → ℕ
-sizeOr0 none = 0
-sizeOr0 (some n) = n
-
 -- the keys that a measure of an operand sets
 unfoldable pub addMeasured : List Key → TextNumber → Option ℕ → Option (ℕ × ℕ) → Option ℕ → List Key
 addMeasured ks x size (some r) index = addRange ks x (r .0) (suc (r .1) - r .0)
 addMeasured ks x size none (some i) = addKey ks (key x (some i))
-addMeasured ks x size none none = addRange (addKey ks (key x none)) x 0 (sizeOr0 size)
+addMeasured ks x size none none = addRange (addKey ks (key x none)) x 0 (or0 size)
 
 unfoldable mutual
   pub keysStmt : Stmt → Symbols → List Key → List Key

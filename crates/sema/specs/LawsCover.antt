@@ -3,20 +3,21 @@
 use Prim.Native.Nat.{ℕ, zero, suc, _+_, _-_, _≤_, _<_}
 use mathlib.Core.Path.{_≡_, refl, sym, ap, subst, _∙_}
 use mathlib.Core.Logic.{_↔_, _⊎_, inl, inr, ⊎-elim}
-use mathlib.Core.Bool.{Bool, true, false, cond, _&&_}
+use mathlib.Core.Bool.{Bool, true, false, cond, _&&_, and-true}
 use mathlib.Core.Option.{Option, none, some}
 use mathlib.Core.List.{List, [], _∷_, List·Memᴰ·not-nil, List·Memᴰ·cases-cons}
 use native.Mathlib.Omega.{arith}
 use native.Mathlib.Decide.{ℕ-discrete, decLt}
 use lib.Dec.{T, eqb, leb, ltb, leb→le}
 use borrow.Author.Tests.{ltb-true, ltb-false, leb-false}
+use Rattle.text.proofs.Tests.{and-both, or-either}
 use Rattle.span.specs.declared.Span.{Span}
 use Rattle.ast.specs.Tree.{TextNumber}
 use Rattle.sema.specs.Symbols.{orElse}
 use Rattle.sema.specs.Marks.{Key, key, Marks, between, lookupMeasured, firstCovered, smallestCovered}
 use Rattle.sema.specs.Operands.{isSome}
 use Rattle.sema.specs.LawsLists.{Has, has-cons}
-use Rattle.sema.specs.LawsMarks.{and-both, or-either, named-iff, some-eq, not-some, between-iff, covered-either}
+use Rattle.sema.specs.LawsMarks.{named-iff, some-eq, not-some, between-iff, covered-either}
 use Rattle.sema.specs.LawsKeys.{key-path}
 use Rattle.sema.specs.LawsOnly.{Only}
 
@@ -151,10 +152,6 @@ least-smaller D E f (some a) (some b) l m = go (ltb (b .0) (a .0)) refl
         let u = ltb-false (b .0) (a .0) e in
         (inl (l .0), l .1, λ i d s. ⊎-elim (λ h. l .2 i h s) (λ h. m .2 i h (omega arith)) d)
 
-and-true : (a : Bool) → (a && true) ≡ false → a ≡ false
-and-true true e = e
-and-true false e = refl
-
 module _ (m : Marks) (x : TextNumber) (r : ℕ × ℕ) where
   -- an index's own mark
   abbrev own : ℕ → Option Span
@@ -246,7 +243,7 @@ module _ (m : Marks) (x : TextNumber) (r : ℕ × ℕ) where
 
       keys-only : (s : Option Span) → m (key x none) ≡ s → leb (r .0) (r .1) && isSome s ≡ false → Least (Within r) (covering m x) found
       keys-only none e t = least-of (Within r) own (covering m x) found (λ i w. whole-none e i) (least-in ks o)
-      keys-only (some sp) e t = empty found (leb-false (r .0) (r .1) (and-true (leb (r .0) (r .1)) t)) (least-in ks o)
+      keys-only (some sp) e t = empty found (leb-false (r .0) (r .1) (sym (and-true (leb (r .0) (r .1))) ∙ t)) (least-in ks o)
 
       go : (t : Bool) → leb (r .0) (r .1) && isSome (m (key x none)) ≡ t → Least (Within r) (covering m x) (cond t (at (r .0) (lookupMeasured m x (some (r .0)))) found)
       go true e =

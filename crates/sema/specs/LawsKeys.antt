@@ -10,12 +10,14 @@ use native.Mathlib.Omega.{arith}
 use native.Mathlib.Decide.{ℕ-discrete, decLe}
 use lib.Dec.{T, eqb, eqb→eq}
 use lib.ListN.{length, length-append}
+use Rattle.sema.specs.Constants.{or0}
+use Rattle.text.proofs.Tests.{and-both, or-either}
 use Rattle.ast.specs.Tree.{TextNumber}
 use Rattle.sema.specs.Limits.{keyLimit}
 use Rattle.sema.specs.Marks.{Key, key}
-use Rattle.sema.specs.Keys.{sameIndex, sameKey, hasKey, addKey, addIndices, addRange, sizeOr0, addMeasured}
+use Rattle.sema.specs.Keys.{sameIndex, sameKey, hasKey, addKey, addIndices, addRange, addMeasured}
 use Rattle.sema.specs.LawsLists.{Has, Distinct, has-cons, distinct-snoc, pigeonhole}
-use Rattle.sema.specs.LawsMarks.{and-both, or-either, eqb-iff, some-eq, not-some, Named, InSlice, Below, Measures}
+use Rattle.sema.specs.LawsMarks.{eqb-iff, some-eq, not-some, Named, InSlice, Below, Measures}
 
 pub key-path : (k l : Key) → k .name ≡ l .name → k .index ≡ l .index → k ≡ l
 key-path k l p q = λ t. record { name = p t; index = q t }
@@ -203,8 +205,7 @@ inside-slice : (r : ℕ × ℕ) (o : Option ℕ) → Inside (suc (r .1) - r .0) 
 inside-slice r none = (λ w. w, λ w. w)
 inside-slice r (some j) = (λ w. omega arith, λ w. omega arith)
 
-inside-size : (size o : Option ℕ) → (o ≡ none) ⊎ Inside (sizeOr0 size) 0 o ↔ Below size o
-unfolding sizeOr0
+inside-size : (size o : Option ℕ) → (o ≡ none) ⊎ Inside (or0 size) 0 o ↔ Below size o
 inside-size size none = (λ w. tt, λ w. inl refl)
 inside-size none (some j) = (⊎-elim (λ e. not-some j (sym e)) (λ w. omega arith), absurd)
 inside-size (some n) (some j) = (⊎-elim (λ e. absurd (not-some j (sym e))) (λ w. omega arith), λ l. inr (omega arith))
@@ -218,9 +219,9 @@ add-measured ks x size none (some i) =
     grown-as keyLimit (λ k. (λ e. (ap (λ (l : Key). l .name) e, ap (λ (l : Key). l .index) e), λ h. key-path k (key x (some i)) (h .0) (h .1)))
     (add-key keyLimit ks (key x (some i)))
 add-measured ks x size none none =
-    grown-as keyLimit whole (grown-both keyLimit (add-key keyLimit ks (key x none)) (add-range (addKey ks (key x none)) x 0 (sizeOr0 size)))
+    grown-as keyLimit whole (grown-both keyLimit (add-key keyLimit ks (key x none)) (add-range (addKey ks (key x none)) x 0 (or0 size)))
   where
-    whole : (k : Key) → (k ≡ key x none) ⊎ Named x (Inside (sizeOr0 size) 0) k ↔ Named x (Below size) k
+    whole : (k : Key) → (k ≡ key x none) ⊎ Named x (Inside (or0 size) 0) k ↔ Named x (Below size) k
     whole k =
         let s = inside-size size (k .index) in (
           ⊎-elim (λ e. (ap (λ (l : Key). l .name) e, s .0 (inl (ap (λ (l : Key). l .index) e)))) (λ h. (h .0, s .0 (inr (h .1)))),

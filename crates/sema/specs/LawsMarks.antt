@@ -6,6 +6,7 @@ use mathlib.Core.Bool.{Bool, true, false, cond, _&&_, _||_}
 use mathlib.Core.Option.{Option, none, some}
 use native.Mathlib.Omega.{arith}
 use lib.Dec.{T, eqb, leb, eqb→eq, eqb-refl, leb→le, le→leb, ltb→lt, lt→ltb}
+use Rattle.text.proofs.Tests.{and-both}
 use Rattle.span.specs.declared.Span.{Span}
 use Rattle.ast.specs.Tree.{TextNumber, GateOperand}
 use Rattle.sema.specs.Symbols.{Symbols, get, orElse}
@@ -13,14 +14,6 @@ use Rattle.sema.specs.Marks.{Key, key, Marks, Effect, set, clear, keep, 
 use Rattle.sema.specs.Operands.{isSome}
 
 -- tests and facts
-pub and-both : (a b : Bool) → T (a && b) ↔ T a × T b
-and-both true b = (λ t. (tt, t), λ t. t .1)
-and-both false b = (absurd, λ t. t .0)
-
-pub or-either : (a b : Bool) → T (a || b) ↔ T a ⊎ T b
-or-either true b = (inl, λ t. tt)
-or-either false b = (inr, ⊎-elim absurd (λ t. t))
-
 pub eqb-iff : (a b : ℕ) → T (eqb a b) ↔ (a ≡ b)
 eqb-iff a b = (eqb→eq a b, λ e. subst (λ (n : ℕ). T (eqb a n)) e (eqb-refl a))
 

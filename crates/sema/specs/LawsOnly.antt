@@ -7,6 +7,7 @@ use mathlib.Core.List.{List}
 use native.Mathlib.Omega.{arith}
 use lib.Dec.{T}
 use lib.ListN.{length}
+use Rattle.text.proofs.Tests.{or-either}
 use Rattle.span.specs.declared.Span.{Span}
 use Rattle.ast.specs.Tree.{Text, GateOperand, Stmt, Stmts, noStmt, moreStmt, Else, noElse, someElse, Program}
 use Rattle.sema.specs.Limits.{keyLimit}
@@ -16,7 +17,7 @@ use Rattle.sema.specs.Operands.{isSome}
 use Rattle.sema.specs.Stmts.{SemaContext, new, enter, leave, defineGate, analyzeStmt, analyzeStmts, analyzeElse}
 use Rattle.sema.specs.Keys.{keys}
 use Rattle.sema.specs.LawsLists.{Has}
-use Rattle.sema.specs.LawsMarks.{or-either, reset-or-keep, unite-either}
+use Rattle.sema.specs.LawsMarks.{reset-or-keep, unite-either}
 use Rattle.sema.specs.KeyCount.{SetsStmt, Sets, SetsElse, SetsIn, keys-all}
 
 -- a mark stands only at keys of K

@@ -7,7 +7,7 @@ use mathlib.Core.Bool.{Bool, true, false, cond, _&&_, _||_, not}
 use lib.ListN.{length, getD}
 use lib.Dec.{eqb, ltb}
 use Rattle.span.specs.declared.Span.{Span}
-use Rattle.ast.specs.Tree.{Text, TextNumber, Expr, Exprs, noExpr, moreExpr, GateOperand, GateModifier, ForRange, Stmt, Stmts, noStmt, moreStmt, Else, noElse, someElse, Program}
+use Rattle.ast.specs.Tree.{Text, TextNumber, Expr, Exprs, noExpr, moreExpr, GateOperand, GateModifier, ForRange, Stmt, Stmts, noStmt, moreStmt, Else, noElse, someElse, Program, exprCount}
 use Rattle.ast.specs.declared.ClassicalType.{ClassicalType}
 use Rattle.ast.specs.declared.ClassicalQualifier.{ClassicalQualifier}
 use Rattle.ast.specs.declared.AssignOp.{AssignOp}
@@ -20,7 +20,7 @@ use Rattle.sema.specs.Symbols.{Symbols, Scope, GateSig, FunctionSig, Tab
 use Rattle.sema.specs.Marks.{Marks, noMarks, effect, apply, unite, afterLoop, lookupMeasured}
 use Rattle.sema.specs.Constants.{controls}
 use Rattle.sema.specs.Operands.{isSome, unless, checkOperand, operandWidth, useOperands}
-use Rattle.sema.specs.Exprs.{exprSpan, mismatch, count, checkExpr, requireType, requireNumeric, checkModifiers}
+use Rattle.sema.specs.Exprs.{exprSpan, mismatch, checkExpr, requireType, requireNumeric, checkModifiers}
 
 -- `SemaContext`; what is said is beside it
 pub record SemaContext : Type 0 where
@@ -107,7 +107,7 @@ arityError message sp x (some at) = errorWithNote message sp (Messages.definedHe
 
 unfoldable pub aritySays : TextNumber → ℕ → ℕ → Option Span → Exprs → List GateModifier → List GateOperand → Span → List Diagnostic
 aritySays x param-count qubit-count decl params modifiers args sp =
-    unless (eqb (count params) param-count) (arityError (Messages.gateParams x param-count (count params)) sp x decl)
+    unless (eqb (exprCount params) param-count) (arityError (Messages.gateParams x param-count (exprCount params)) sp x decl)
     ++ unless (eqb (length args) (qubit-count + controls modifiers)) (arityError (Messages.gateQubits x (qubit-count + controls modifiers) (length args)) sp x decl)
 
 unfoldable pub paramsSay : SemaContext → Exprs → List Diagnostic

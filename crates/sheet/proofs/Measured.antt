@@ -5,8 +5,9 @@ use mathlib.Core.List.{List}
 use mathlib.Core.Option.{Option, none}
 use native.Mathlib.Omega.{arith}
 use lib.ListN.{length}
+use Rattle.sema.specs.Constants.{or0}
 use Rattle.sema.specs.Marks.{Key, key}
-use Rattle.sema.specs.Keys.{addKey, addIndices, addRange, addMeasured, sizeOr0}
+use Rattle.sema.specs.Keys.{addKey, addIndices, addRange, addMeasured}
 use Rattle.context.specs.declared.Number.{Number}
 use Rattle.context.specs.declared.Ends.{Ends}
 use Rattle.context.specs.Values.{numberOf, endsOf}
@@ -34,19 +35,18 @@ module _ (before mid : List ℕ) (ks : List Key) (x head c : ℕ) (size : Number
   first-added : KeysAdded before mid c whole
   first-added = rw (e, whole-key x 0) at k
 
-  pub whole-over : c ≡ 257 → KeysAdded before mid 257 (addRange whole x 0 (sizeOr0 (numberOf size)))
+  pub whole-over : c ≡ 257 → KeysAdded before mid 257 (addRange whole x 0 (or0 (numberOf size)))
   whole-over f =
-      added-full before mid mid c whole first-added f (addRange whole x 0 (sizeOr0 (numberOf size)))
-      (keep-range (AtLeast (length whole)) (more-long (length whole)) whole x 0 (sizeOr0 (numberOf size)) (omega arith))
+      added-full before mid mid c whole first-added f (addRange whole x 0 (or0 (numberOf size)))
+      (keep-range (AtLeast (length whole)) (more-long (length whole)) whole x 0 (or0 (numberOf size)) (omega arith))
 
   pub whole-some : (c ≡ 257 → ⊥) → (after : List ℕ) (n r : ℕ) → size ≡ Number.Some n
-      → KeysAdded mid after r (addRange (keysIn mid c) x 0 n) → KeysAdded before after r (addRange whole x 0 (sizeOr0 (numberOf size)))
-  unfolding sizeOr0
+      → KeysAdded mid after r (addRange (keysIn mid c) x 0 n) → KeysAdded before after r (addRange whole x 0 (or0 (numberOf size)))
   whole-some f after n r g h =
       rw g (added-then before mid after c whole first-added (omega (arith, k .counted)) (λ ls. addRange ls x 0 n) r h)
 
-  pub whole-none : size ≡ Number.None → KeysAdded before mid c (addRange whole x 0 (sizeOr0 (numberOf size)))
-  unfolding sizeOr0 addRange addIndices
+  pub whole-none : size ≡ Number.None → KeysAdded before mid c (addRange whole x 0 (or0 (numberOf size)))
+  unfolding addRange addIndices
   whole-none g = rw g first-added
 
 pub ruleset wholes = (whole-over, whole-some, whole-none)
@@ -66,7 +66,7 @@ module _ (before after : List ℕ) (ks : List Key) (x r : ℕ) (size : Option �
   measured-index i head e f g k = rw (e, f) (rw (g, index-key x i) at k)
 
   pub measured-whole : slice ≡ Ends.None → at ≡ Number.None
-      → KeysAdded before after r (addRange (addKey ks (key x none)) x 0 (sizeOr0 size)) → Added
+      → KeysAdded before after r (addRange (addKey ks (key x none)) x 0 (or0 size)) → Added
   unfolding addMeasured
   measured-whole e f k = rw (e, f) k
 

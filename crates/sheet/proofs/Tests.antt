@@ -2,7 +2,7 @@
 use Prim.Native.Nat.{ℕ, zero, suc, _/_, _%_, _≤_, _<_}
 use mathlib.Core.Path.{_≡_, refl, sym, _∙_}
 use mathlib.Core.Option.{Option, none, some}
-use mathlib.Core.Bool.{Bool, true, false, cond, _&&_}
+use mathlib.Core.Bool.{Bool, true, false, cond, _&&_, false≢true}
 use lib.Dec.{eqb, leb, ltb}
 use borrow.Author.Tests.{eq-eqb, ne-eqb, le-leb, lt-leb}
 use Rattle.sema.specs.Marks.{key, inSlice, isIndex, belowSize, measures, resets}
@@ -15,7 +15,7 @@ use Rattle.context.specs.View.{keyBy}
 use Rattle.sheet.specs.declared.Covered.{Covered}
 use Rattle.sheet.specs.Sheet.{smaller, offer, reaches, touches}
 use Rattle.sheet.specs.Heads.{even-key, odd-key, by-parity, key-name, head-eq}
-use Rattle.sheet.specs.Places.{never, by-test, key-eq, same-key}
+use Rattle.sheet.specs.Places.{by-test, key-eq, same-key}
 
 -- two keys
 module _ (h i o j : ℕ) where
@@ -119,7 +119,7 @@ module _ (best : Covered) (x a b h i p : ℕ) where
   offered-some w r e f g n s =
       rw (key-name h i, eq-eqb (h / 2) x e, ← f, g)
       (by-parity h
-      (λ z. never (rw (even-key h i z) at (sym f ∙ g)))
+      (λ z. absurd (false≢true (rw (even-key h i z) at (sym f ∙ g))))
       (λ z. rw (odd-key h i z) (s ∙ offer-some p refl n)))
 
 pub ruleset offers = (offered-none, offered-other, offered-out, offered-some)

@@ -1,13 +1,13 @@
 -- No two keys of a tree are equal. Assumes nothing.
 use mathlib.Core.Path.{_≡_, refl, sym, _∙_}
 use mathlib.Core.List.{List, [], _∷_, _++_}
-use mathlib.Core.Bool.{false, _||_}
+use mathlib.Core.Bool.{false, _||_, false≢true}
 use Rattle.ast.specs.Tree.{Program}
 use Rattle.sema.specs.Symbols.{empty}
 use Rattle.sema.specs.Marks.{Key}
 use Rattle.sema.specs.Keys.{sameKey, hasKey, addKey, keys}
 use Rattle.sheet.specs.Sheet.{Distinct}
-use Rattle.sheet.specs.Places.{never, by-test, key-eq, same-key, has-here, has-there}
+use Rattle.sheet.specs.Places.{by-test, key-eq, same-key, has-here, has-there}
 use Rattle.sheet.specs.Table.{add-there, add-new, keep-stmts}
 
 -- a key behind others
@@ -21,9 +21,9 @@ unfolding Distinct hasKey
 distinct-behind [] k d e = (refl, tt)
 distinct-behind (l ∷ ks) k d e =
     by-test (sameKey l k)
-    (λ t. never (sym e ∙ has-here l ks k t))
+    (λ t. absurd (false≢true (sym e ∙ has-here l ks k t)))
     (λ t.
-    let f : sameKey k l ≡ false = by-test (sameKey k l) (λ u. never (sym t ∙ rw (key-eq k l u) (same-key l))) (λ u. u) in
+    let f : sameKey k l ≡ false = by-test (sameKey k l) (λ u. absurd (false≢true (sym t ∙ rw (key-eq k l u) (same-key l)))) (λ u. u) in
     (has-behind ks k l ∙ rw (d .0, f), distinct-behind ks k (d .1) (sym (has-there l ks k t) ∙ e)))
 
 more-distinct : (ks : List Key) (k : Key) → Distinct ks → Distinct (addKey ks k)

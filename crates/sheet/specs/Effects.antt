@@ -2,7 +2,7 @@
 use Prim.Native.Nat.{ℕ, zero, suc, _≤_}
 use mathlib.Core.Path.{_≡_, refl, sym, ap, _∙_}
 use mathlib.Core.List.{List, [], _∷_}
-use mathlib.Core.Bool.{Bool, true, false, cond, _&&_}
+use mathlib.Core.Bool.{Bool, true, false, cond, _&&_, false≢true}
 use native.Mathlib.Omega.{arith}
 use lib.ListN.{length, replicate}
 use Rattle.span.specs.declared.Span.{Span}
@@ -12,7 +12,7 @@ use Rattle.sema.specs.Marks.{Key, noMarks, set, clear, keep, sizeOf, markMeasur
 use Rattle.sema.specs.Keys.{sameKey, hasKey}
 use Rattle.context.specs.View.{placeIn, measureSpan, markBy, marksOf}
 use Rattle.sheet.specs.Sheet.{first, Covers, measuring, stored, united}
-use Rattle.sheet.specs.Places.{never, by-test, key-eq, has-here, has-there, place-here, place-there, unplaced, mark-first}
+use Rattle.sheet.specs.Places.{by-test, key-eq, has-here, has-there, place-here, place-there, unplaced, mark-first}
 
 -- the place of a key after a store
 module _ (t : Key → Bool) (p : ℕ) (k : Key) where
@@ -34,7 +34,7 @@ module _ (tree : List ℕ) (t : Key → Bool) (ks : List Key) (vs : List ℕ) (h
     unfolding markBy mark Covers
     set-at k true true e f = refl
     set-at k true false e f = refl
-    set-at k false true e f = never (sym e ∙ c k (rw f))
+    set-at k false true e f = absurd (false≢true (sym e ∙ c k (rw f)))
     set-at k false false e f = refl
 
     pub marks-set : marksOf tree ks (stored t (suc q) ks vs) ≡ apply (λ k. cond (t k) set keep) (measureSpan tree (suc q)) (marksOf tree ks vs)

@@ -3,7 +3,7 @@ use Prim.Native.Nat.{ℕ, zero, suc, _≤_, _<_}
 use mathlib.Core.Path.{_≡_, refl, sym, ap, _∙_}
 use mathlib.Core.List.{List, [], _∷_}
 use mathlib.Core.Option.{Option, none, some}
-use mathlib.Core.Bool.{Bool, true, false, _&&_}
+use mathlib.Core.Bool.{Bool, true, false, and-eq-true-iff, false≢true}
 use native.Mathlib.Omega.{arith}
 use lib.ListN.{length}
 use lib.Dec.{eqb}
@@ -15,13 +15,6 @@ use Rattle.sema.specs.Keys.{sameIndex, sameKey, hasKey}
 use Rattle.context.specs.View.{placeIn, markBy, marksOf}
 use Rattle.sheet.specs.Sheet.{position, first, lookupIn}
 
-pub never : {A : Type 0} → false ≡ true → A
-never e = let z : _≡_ {A = ℕ} 0 1 = cc in absurd (omega arith)
-
-pub both : (a b : Bool) → (a && b) ≡ true → (a ≡ true) × (b ≡ true)
-both true b e = (refl, e)
-both false b e = never e
-
 -- a test is true or false
 pub by-test : {A : Type 0} (b : Bool) → (b ≡ true → A) → (b ≡ false → A) → A
 by-test true f g = f refl
@@ -31,14 +24,14 @@ by-test false f g = g refl
 index-eq : (i j : Option ℕ) → sameIndex i j ≡ true → i ≡ j
 unfolding sameIndex
 index-eq none none e = refl
-index-eq none (some j) e = never e
-index-eq (some i) none e = never e
+index-eq none (some j) e = absurd (false≢true e)
+index-eq (some i) none e = absurd (false≢true e)
 index-eq (some i) (some j) e = ap {B = Option ℕ} some (eqb-true i j e)
 
 pub key-eq : (k l : Key) → sameKey k l ≡ true → k ≡ l
 unfolding sameKey
 key-eq k l e =
-    let h = both (eqb (k .name) (l .name)) (sameIndex (k .index) (l .index)) e in
+    let h = and-eq-true-iff (eqb (k .name) (l .name)) (sameIndex (k .index) (l .index)) .0 e in
     λ i. record { name = eqb-true (k .name) (l .name) (h .0) i; index = index-eq (k .index) (l .index) (h .1) i }
 
 same-index : (i : Option ℕ) → sameIndex i i ≡ true
@@ -84,7 +77,7 @@ unplaced [] sheet k h = refl
 unplaced (l ∷ ls) [] k h = refl
 unplaced (l ∷ ls) (v ∷ vs) k h =
     by-test (sameKey l k)
-    (λ e. never (sym h ∙ has-here l ls k e))
+    (λ e. absurd (false≢true (sym h ∙ has-here l ls k e)))
     (λ e. place-there l ls k v vs e ∙ unplaced ls vs k (sym (has-there l ls k e) ∙ h))
 
 -- the number of the first key that is k says whether it is there

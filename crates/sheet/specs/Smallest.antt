@@ -3,7 +3,7 @@ use Prim.Native.Nat.{ℕ, zero, suc, _+_, _-_, _≤_, _<_}
 use mathlib.Core.Path.{_≡_, refl, sym, ap, _∙_}
 use mathlib.Core.List.{List, [], _∷_}
 use mathlib.Core.Option.{Option, none, some}
-use mathlib.Core.Bool.{true, false, _&&_}
+use mathlib.Core.Bool.{true, false, _&&_, false≢true, and-eq-true-iff}
 use native.Mathlib.Omega.{arith}
 use lib.Dec.{eqb, leb}
 use borrow.Author.Tests.{eqb-true, eqb-false, leb-true, leb-false, eq-eqb, le-leb}
@@ -14,7 +14,7 @@ use Rattle.sema.specs.Keys.{sameKey, hasKey}
 use Rattle.context.specs.View.{placeIn, measureSpan, markBy, marksOf}
 use Rattle.sheet.specs.declared.Covered.{Covered}
 use Rattle.sheet.specs.Sheet.{first, lookupIn, smaller, offer, leastIn, byWhole, smallestIn, coveredOf, Distinct}
-use Rattle.sheet.specs.Places.{never, by-test, both, key-eq, same-key, place-here, place-there, unplaced, first-none, first-pos, lookup-marks}
+use Rattle.sheet.specs.Places.{by-test, key-eq, same-key, place-here, place-there, unplaced, first-none, first-pos, lookup-marks}
 
 -- the first covered index of a range
 module _ (m : Marks) (x : TextNumber) where
@@ -98,7 +98,7 @@ module _ (x : TextNumber) (a b : ℕ) where
         by-test (sameKey k (key x (some j)))
         (λ t.
         let f : (eqb x x && inSlice (a, b) (some j)) ≡ false = rw (key-eq k (key x (some j)) t) at e in
-        never (sym f ∙ rw (eq-eqb x x refl, le-leb a j u, le-leb j b w)))
+        absurd (false≢true (sym f ∙ rw (eq-eqb x x refl, le-leb a j u, le-leb j b w))))
         (λ t. place-there k ks (key x (some j)) v vs t)
 
     -- a key of the slice
@@ -120,9 +120,9 @@ module _ (x : TextNumber) (a b : ℕ) where
     by-index : (o : Option ℕ) → inSlice (a, b) o ≡ true → hasKey ks (key x o) ≡ false → (c : Covered)
         → IsLeast (own ks vs) a b c → IsLeast (own (key x o ∷ ks) (v ∷ vs)) a b (offer o v c)
     unfolding inSlice
-    by-index none e d c h = never e
+    by-index none e d c h = absurd (false≢true e)
     by-index (some i) e d c h =
-        let t = both (leb a i) (leb i b) e in
+        let t = and-eq-true-iff (leb a i) (leb i b) .0 e in
         inside i d (leb-true a i (t .0)) (leb-true i b (t .1)) c h
 
     by-name : (n : TextNumber) (o : Option ℕ) → n ≡ x → inSlice (a, b) o ≡ true → hasKey ks (key n o) ≡ false → (c : Covered)
@@ -137,7 +137,7 @@ module _ (x : TextNumber) (a b : ℕ) where
       let c = leastIn x (a, b) ks vs in
       by-test (eqb (k .name) x && inSlice (a, b) (k .index))
       (λ t.
-      let h = both (eqb (k .name) x) (inSlice (a, b) (k .index)) t in
+      let h = and-eq-true-iff (eqb (k .name) x) (inSlice (a, b) (k .index)) .0 t in
       rw (taken ks v vs k t) (by-name ks v vs (k .name) (k .index) (eqb-true (k .name) x (h .0)) (h .1) (d .0) c (least-is ks vs (d .1))))
       (λ t. rw (skipped ks v vs k t) (least-same (own ks vs) (own (k ∷ ks) (v ∷ vs)) a b (outside ks v vs k t) c (least-is ks vs (d .1))))
 

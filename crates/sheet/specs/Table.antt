@@ -7,10 +7,11 @@ use mathlib.Core.Bool.{true, false}
 use native.Mathlib.Omega.{arith}
 use lib.ListN.{length, getD, set, length-set, length-append}
 use lib.Seq.{getD-set-same, getD-set-other}
+use Rattle.sema.specs.Constants.{or0}
 use Rattle.ast.specs.Tree.{TextNumber, Stmt, Stmts, noStmt, moreStmt, Else, noElse, someElse}
 use Rattle.sema.specs.Symbols.{Symbols, empty, get, after, gateScope, loopScope}
 use Rattle.sema.specs.Marks.{Key, key, sizeOf}
-use Rattle.sema.specs.Keys.{hasKey, addKey, addIndices, addRange, addMeasured, sizeOr0, keysStmt, keysStmts, keysElse}
+use Rattle.sema.specs.Keys.{hasKey, addKey, addIndices, addRange, addMeasured, keysStmt, keysStmts, keysElse}
 use Rattle.context.specs.View.{keyBy, keyAt, keysFrom, keysIn}
 use Rattle.sema.specs.Limits.{keyLimit}
 use Rattle.sheet.specs.Sheet.{KeysAdded}
@@ -51,7 +52,7 @@ module _ (P : List Key → Type 0) (more : (ks : List Key) (k : Key) → P ks �
   pub keep-measured : (ks : List Key) (x : TextNumber) (size : Option ℕ) (slice : Option (ℕ × ℕ)) (index : Option ℕ)
       → P ks → P (addMeasured ks x size slice index)
   unfolding addMeasured
-  keep-measured ks x size none none h = keep-range (addKey ks (key x none)) x 0 (sizeOr0 size) (more ks (key x none) h)
+  keep-measured ks x size none none h = keep-range (addKey ks (key x none)) x 0 (or0 size) (more ks (key x none) h)
   keep-measured ks x size none (some i) h = more ks (key x (some i)) h
   keep-measured ks x size (some r) index h = keep-range ks x (r .0) (suc (r .1) - r .0) h
 

@@ -2,8 +2,9 @@
 ghost use mathlib.Core.Path.{_≡_};
 ghost use mathlib.Core.Option.{none};
 ghost use Prim.Native.Nat.{suc, _+_, _-_, _^_, _≤_, _<_, min};
+ghost use Rattle.sema.specs.Constants.{or0};
 ghost use Rattle.sema.specs.Marks.{key};
-ghost use Rattle.sema.specs.Keys.{addKey, addRange, addMeasured, sizeOr0};
+ghost use Rattle.sema.specs.Keys.{addKey, addRange, addMeasured};
 ghost use Rattle.context.specs.Values.{numberOf, endsOf};
 ghost use Rattle.context.specs.View.{keyBy, keysIn};
 ghost use Rattle.sheet.specs.Sheet.{Indexed, position, KeysAdded};
@@ -30,7 +31,7 @@ fn find(index: &[u64], count: usize, head: u64, i: u64) -> usize
 }
 
 // A key more, if it is not there; 257 where there is no room, and the index is as it was.
-pub fn add_key(index: &mut [u64], count: usize, head: u64, i: u64) -> usize
+fn add_key(index: &mut [u64], count: usize, head: u64, i: u64) -> usize
     requires { ⌜ Indexed (now index) count ⌝ }
     ensures added { λ r. ⌜ KeysAdded (now (index .entry)) (now (index .exit)) r (addKey (keysIn (now (index .entry)) count) (keyBy head i)) ⌝ }
     ensures over { λ r. ⌜ (r ≡ 257 → now (index .exit) ≡ now (index .entry)) ⌝ }
@@ -68,7 +69,7 @@ fn at_most_257(n: u64) -> u64
 }
 
 // So many indices of a name, from i on; 257 where there is no room for all.
-pub fn add_range(index: &mut [u64], count: usize, x: usize, i: u64, n: u64) -> usize
+fn add_range(index: &mut [u64], count: usize, x: usize, i: u64, n: u64) -> usize
     requires { ⌜ Indexed (now index) count ⌝ }
     requires { ⌜ (x < 256) × (i + n ≤ 2 ^ 64) ⌝ }
     ensures { λ r. ⌜ KeysAdded (now (index .entry)) (now (index .exit)) r (addRange (keysIn (now (index .entry)) count) x i n) ⌝ }
@@ -105,7 +106,7 @@ fn add_slice(index: &mut [u64], count: usize, x: usize, a: u64, b: u64) -> usize
 fn add_whole(index: &mut [u64], count: usize, x: usize, size: Number) -> usize
     requires { ⌜ Indexed (now index) count ⌝ }
     requires { ⌜ x < 256 ⌝ }
-    ensures { λ r. ⌜ KeysAdded (now (index .entry)) (now (index .exit)) r (addRange (addKey (keysIn (now (index .entry)) count) (key x none)) x 0 (sizeOr0 (numberOf size))) ⌝ }
+    ensures { λ r. ⌜ KeysAdded (now (index .entry)) (now (index .exit)) r (addRange (addKey (keysIn (now (index .entry)) count) (key x none)) x 0 (or0 (numberOf size))) ⌝ }
 {
     let c = add_key(index, count, whole_head(x), 0);
     if c == 257 {

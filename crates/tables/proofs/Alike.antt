@@ -7,7 +7,7 @@ use native.Mathlib.Omega.{arith}
 use native.Mathlib.Nat.{add-zero}
 use lib.ListN.{length, getD, take, drop, length-drop, List·getD-append}
 use lib.Seq.{sets, sets-eq, length-take-le, take-append-le, drop-append-le, drop-at, drop-drop, getD-drop}
-use Rattle.tree.specs.Read.{value}
+use Rattle.text.specs.Big.{value}
 use Rattle.context.specs.View.{numberAt, spanAt, symbolBy, gateBy, functionBy}
 use Rattle.tables.proofs.Frame.{Outside, same-part}
 

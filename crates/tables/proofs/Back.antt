@@ -6,9 +6,9 @@ use mathlib.Core.Option.{Option, none, some}
 use native.Mathlib.Omega.{arith}
 use lib.ListN.{length, getD, take}
 use lib.Seq.{take-all}
+use Rattle.text.specs.Big.{value}
 use Rattle.span.specs.declared.Span.{Span}
 use Rattle.ast.specs.declared.ClassicalType.{ClassicalType}
-use Rattle.tree.specs.Read.{value}
 use Rattle.tree.specs.Encode.{big}
 use Rattle.tree.specs.Fits.{NumberFits, SpanFits, OptionFits}
 use Rattle.sema.specs.Messages.{SymbolKind, Qubit, Bit, Classical, Const, GateParam, GateQubit}

@@ -10,7 +10,7 @@ use native.Mathlib.Nat.{mul-le-mul-right, suc-mul}
 use lib.ListN.{length, getD, take, drop, length-take, length-drop, length-map}
 use lib.Dec.{ltb, eqb}
 use borrow.Author.Tests.{ltb-true, lt-ltb, eqb-true, eqb-false}
-use Rattle.text.proofs.Clamp.{split}
+use Rattle.text.proofs.Order.{le-or-lt}
 use Rattle.sema.specs.Symbols.{Symbol, GateSig, FunctionSig, Table, Scope, Symbols, insert}
 use Rattle.context.specs.View.{below256, typeOf, symbolAt, codePlace, symbolPlace, scopeOf, scopesOf, gateBase, gatePlace, gateBy, gatesOf, functionBase, functionPlace, functionBy, functionsOf}
 use Rattle.tables.specs.Tables.{paramsOf, FewParams}
@@ -46,7 +46,7 @@ apart base w y x a b n from to =
     ⊎-elim
     (λ (h : x ≤ y). let k : suc x * w ≤ y * w = mul-le-mul-right w (omega arith) in inr (omega (arith, suc-mul x w, k)))
     (λ (h : y < x). let k : suc y * w ≤ x * w = mul-le-mul-right w h in inl (omega (arith, suc-mul y w, k)))
-    (split x y)
+    (le-or-lt x y)
 
 module _ {a b : ℕ} {s t : List ℕ} (r : Outside a b s t) where
   -- a symbol neither of whose parts is touched
@@ -89,7 +89,7 @@ unfolding scopeOf
 scope-insert {c} {at} o p level x v l e f h =
     table-insert _ _ x v l h (λ y n k.
     symbol-kept p level y (inl (omega arith)) (apart (level * 4608 + 256) 17 y x at (at + 17) n (omega arith) (omega arith))
-    ∙ symbol-kept o level y (⊎-elim (λ (q : x ≤ y). inr (omega arith)) (λ (q : y < x). inl (omega arith)) (split x y)) (inr (omega arith)))
+    ∙ symbol-kept o level y (⊎-elim (λ (q : x ≤ y). inr (omega arith)) (λ (q : y < x). inl (omega arith)) (le-or-lt x y)) (inr (omega arith)))
 
 few-by : (s : List ℕ) (at code : ℕ) → 65536 ≤ length s → at ≤ 51200 → length (paramsOf (functionBy s at code)) ≤ 16 → (code ≡ 0 → ⊥) → getD s (at + 2) 0 ≤ 16
 few-by s at zero room h few n = absurd (n refl)

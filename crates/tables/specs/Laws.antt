@@ -9,12 +9,13 @@ use native.Mathlib.Decide.{decLe}
 use lib.ListN.{length, getD, length-map}
 use lib.Dec.{ltb, eqb}
 use borrow.Author.Tests.{ltb-true}
+use Rattle.tree.specs.Limits.{vecLimit}
 use Rattle.span.specs.declared.Span.{Span}
 use Rattle.ast.specs.declared.ClassicalType.{ClassicalType}
 use Rattle.sema.specs.Symbols.{Symbol, FunctionSig, Table, Scope, Symbols, empty, insert, GateSig}
 use Rattle.context.specs.View.{typeOf, below256, codePlace, scopeOf, scopesOf, gatePlace, gatesOf, functionPlace, functionsOf}
 use Rattle.tables.specs.Entries.{typeBytes}
-use Rattle.tables.specs.Tables.{Becomes, Inserted, paramsOf, mostParams, FewParams, functionIn}
+use Rattle.tables.specs.Tables.{Becomes, Inserted, paramsOf, FewParams, functionIn}
 
 -- a scope is left by counting one less
 pub leave : (s : List ℕ) (depth : ℕ) → scopesOf s (suc depth) ≡ scopeOf s depth ∷ scopesOf s depth
@@ -69,11 +70,11 @@ functions-empty s h = none-below _ (λ x l. rw (h x l))
 pub few-empty : FewParams empty
 few-empty = record { few = λ x. omega arith }
 
-pub few-insert : (t : Table FunctionSig) (x : ℕ) (f : FunctionSig) → FewParams t → length (f .params) ≤ mostParams → FewParams (insert t x f)
+pub few-insert : (t : Table FunctionSig) (x : ℕ) (f : FunctionSig) → FewParams t → length (f .params) ≤ vecLimit → FewParams (insert t x f)
 unfolding insert
 few-insert t x f h l = record { few = λ y. at y (eqb x y) refl }
   where
-    at : (y : ℕ) (b : Bool) → eqb x y ≡ b → length (paramsOf (insert t x f y)) ≤ mostParams
+    at : (y : ℕ) (b : Bool) → eqb x y ≡ b → length (paramsOf (insert t x f y)) ≤ vecLimit
     at y true e = rw e l
     at y false e = rw e (h .few y)
 
@@ -83,7 +84,7 @@ unfolding typeBytes
 length-types tree at zero = refl
 length-types tree at (suc n) = ap suc (length-types tree _ n)
 
-pub few-defined : (t : Table FunctionSig) (tree : List ℕ) (x at count : ℕ) (ty : ClassicalType) (sp : Span) → FewParams t → count ≤ mostParams → FewParams (insert t x (functionIn tree at count ty sp))
+pub few-defined : (t : Table FunctionSig) (tree : List ℕ) (x at count : ℕ) (ty : ClassicalType) (sp : Span) → FewParams t → count ≤ vecLimit → FewParams (insert t x (functionIn tree at count ty sp))
 few-defined t tree x at count ty sp h l =
     let n : length (map typeOf (typeBytes tree at count)) ≡ count = length-map (typeBytes tree at count) typeOf ∙ length-types tree at count in
     few-insert t x (functionIn tree at count ty sp) h (omega arith)

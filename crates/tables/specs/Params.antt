@@ -7,11 +7,13 @@ use native.Mathlib.Omega.{arith}
 use lib.ListN.{length, getD, take, drop}
 use lib.Dec.{ltb, leb}
 use borrow.Author.Tests.{ltb-true, leb-true}
+use Rattle.text.specs.Big.{value}
+use Rattle.tree.specs.AnsLaws.{never-ok, came}
 use Rattle.span.specs.declared.Span.{Span}
 use Rattle.ast.specs.Tree.{Text, TextNumber}
 use Rattle.ast.specs.declared.ClassicalType.{ClassicalType}
 use Rattle.tree.specs.Ans.{Ans, ok, refused, bind, _>>=_, _>>_, done, here, refuse, check}
-use Rattle.tree.specs.Read.{within, byte, bytes, value, number, caseByte, oneOf, repeat}
+use Rattle.tree.specs.Read.{within, byte, bytes, number, caseByte, oneOf, repeat}
 use Rattle.tree.specs.Texts.{isName}
 use Rattle.tree.specs.Exprs.{textNumber}
 use Rattle.tree.specs.Stmts.{classicalType, param}
@@ -19,30 +21,14 @@ use Rattle.context.specs.View.{typeOf}
 use Rattle.tables.specs.Entries.{typeBytes}
 use Rattle.tables.specs.Tables.{functionIn}
 
--- a refusal is no value
-never : {A C : Type 0} {number place next : ℕ} {v : A} → _≡_ {A = Ans A} (refused number place) (ok v next) → C
-never e = let z : _≡_ {A = ℕ} 0 1 = cc in absurd (omega arith)
-
--- two readers, one behind the other, gave a value: so did the first
-record Both {A B : Type 0} (a : Ans A) (f : A → ℕ → Ans B) (v : B) (next : ℕ) : Type 0 where
-  found : A
-  place : ℕ
-  first : a ≡ ok found place
-  second : f found place ≡ ok v next
-
-both : {A B : Type 0} (a : Ans A) (f : A → ℕ → Ans B) (v : B) (next : ℕ) → bind a f ≡ ok v next → Both a f v next
-unfolding bind
-both (ok x n) f v next e = record { found = x; place = n; first = refl; second = e }
-both (refused m p) f v next e = never e
-
 type-read : (s : List ℕ) (at : ℕ) (ty : ClassicalType) (next : ℕ) → classicalType s at ≡ ok ty next → (at < length s) × (ty ≡ typeOf (getD s at 0)) × (next ≡ at + 1)
 unfolding classicalType oneOf caseByte byte within _>>=_ _>>_ bind here check done refuse
 type-read s at ty next h = by (ltb at (length s)) refl (ltb (getD s at 0) 5) refl
   where
     by : (a : Bool) → ltb at (length s) ≡ a → (b : Bool) → ltb (getD s at 0) 5 ≡ b → (at < length s) × (ty ≡ typeOf (getD s at 0)) × (next ≡ at + 1)
     by true e true f = let r = rw (e, f) at h in (ltb-true at (length s) e, cc, cc)
-    by true e false f = never (rw (e, f) at h)
-    by false e b f = never (rw e at h)
+    by true e false f = absurd (never-ok (rw (e, f) at h) refl)
+    by false e b f = absurd (never-ok (rw e at h) refl)
 
 name-read : (t : List Text) (s : List ℕ) (at x next : ℕ) → textNumber t isName s at ≡ ok x next → (at + 2 ≤ length s) × (next ≡ at + 2)
 unfolding textNumber number bytes within _>>=_ _>>_ bind here check done refuse
@@ -52,20 +38,20 @@ name-read t s at x next h =
   where
     by : (a : Bool) → leb (at + 2) (length s) ≡ a → (b : Bool) → ltb (value 0 (take 2 (drop at s))) (length t) ≡ b → (c : Bool) → isName (getD t (value 0 (take 2 (drop at s))) []) ≡ c → (at + 2 ≤ length s) × (next ≡ at + 2)
     by true e true f true g = let r = rw (e, f, g) at h in (leb-true (at + 2) (length s) e, cc)
-    by true e true f false g = never (rw (e, f, g) at h)
-    by true e false f c g = never (rw (e, f) at h)
-    by false e b f c g = never (rw e at h)
+    by true e true f false g = absurd (never-ok (rw (e, f, g) at h) refl)
+    by true e false f c g = absurd (never-ok (rw (e, f) at h) refl)
+    by false e b f c g = absurd (never-ok (rw e at h) refl)
 
 param-read : (t : List Text) (s : List ℕ) (at : ℕ) (p : ClassicalType × TextNumber) (next : ℕ) → param t s at ≡ ok p next → (at + 3 ≤ length s) × (p .0 ≡ typeOf (getD s at 0)) × (next ≡ at + 3)
 unfolding param _>>=_ done
 param-read t s at p next h =
-    let a = both _ _ p next h in
-    let b = both _ _ p next (a .second) in
-    let u = type-read s at (a .found) (a .place) (a .first) in
-    let v = name-read t s (a .place) (b .found) (b .place) (b .first) in
-    let e = b .second in
-    let same : p .0 ≡ a .found = cc in
-    let last : next ≡ b .place = cc in
+    let a = came _ _ p next h in
+    let b = came _ _ p next (a .then) in
+    let u = type-read s at (a .value) (a .next) (a .from) in
+    let v = name-read t s (a .next) (b .value) (b .next) (b .from) in
+    let e = b .then in
+    let same : p .0 ≡ a .value = cc in
+    let last : next ≡ b .next = cc in
     (omega arith, same ∙ u .1, omega arith)
 
 -- so many parameters from a place on
@@ -81,15 +67,15 @@ params-read t s zero at ps next l h =
     let f : next ≡ at = cc in
     record { types = rw e; inside = omega arith; behind = omega arith }
 params-read t s (suc n) at ps next l h =
-    let a = both _ _ ps next h in
-    let b = both _ _ ps next (a .second) in
-    let u = param-read t s at (a .found) (a .place) (a .first) in
-    let v = params-read t s n (a .place) (b .found) (b .place) (omega arith) (b .first) in
-    let g = b .second in
-    let e : ps ≡ a .found ∷ b .found = cc in
-    let f : next ≡ b .place = cc in
-    let k : a .place ≡ at + 3 = u .2 in
-    let w : map typeOf (typeBytes s (a .place) n) ≡ map typeOf (typeBytes s (at + 3) n) = rw k in
+    let a = came _ _ ps next h in
+    let b = came _ _ ps next (a .then) in
+    let u = param-read t s at (a .value) (a .next) (a .from) in
+    let v = params-read t s n (a .next) (b .value) (b .next) (omega arith) (b .from) in
+    let g = b .then in
+    let e : ps ≡ a .value ∷ b .value = cc in
+    let f : next ≡ b .next = cc in
+    let k : a .next ≡ at + 3 = u .2 in
+    let w : map typeOf (typeBytes s (a .next) n) ≡ map typeOf (typeBytes s (at + 3) n) = rw k in
     record {
       types = rw e (ap₂ (λ (c : ClassicalType) (cs : List ClassicalType). c ∷ cs) (u .1) (v .types ∙ w));
       inside = omega (arith, v .inside);

@@ -4,6 +4,7 @@ use mathlib.Core.Path.{_≡_}
 use mathlib.Core.List.{List, [], _∷_, _++_, map}
 use mathlib.Core.Option.{Option, none, some}
 use lib.ListN.{length, drop, replicate}
+use Rattle.tree.specs.Limits.{vecLimit}
 use Rattle.span.specs.declared.Span.{Span}
 use Rattle.ast.specs.Tree.{TextNumber}
 use Rattle.ast.specs.declared.ClassicalType.{ClassicalType}
@@ -55,13 +56,9 @@ abbrev pub paramsOf : Option FunctionSig → List ClassicalType
 paramsOf none = []
 paramsOf (some f) = f .params
 
--- an entry has room for so many types
-abbrev pub mostParams : ℕ
-mostParams = 16
-
 -- no function has more parameters: so it is where a walk begins, and after each definition from a tree
 pub record FewParams (t : Table FunctionSig) : Type 0 where
-  pub few : (x : ℕ) → length (paramsOf (t x)) ≤ mostParams
+  pub few : (x : ℕ) → length (paramsOf (t x)) ≤ vecLimit
 
 -- the function that stands in the tree with so many parameters from a place on
 abbrev pub functionIn : List ℕ → ℕ → ℕ → ClassicalType → Span → FunctionSig

@@ -1,17 +1,13 @@
 -- A part whose ends are kept within the list is the same part. Assumes nothing.
-use Prim.Native.Nat.{ℕ, zero, suc, _≤_, _<_, _-_, min}
+use Prim.Native.Nat.{ℕ, _≤_, _<_, _-_, min}
 use mathlib.Core.Path.{_≡_, sym, _∙_}
 use mathlib.Core.List.{List, []}
-use mathlib.Core.Logic.{_⊎_, inl, inr, ⊎-elim}
+use mathlib.Core.Logic.{⊎-elim}
 use native.Mathlib.Omega.{arith}
 use lib.ListN.{length, drop, length-drop, drop-of-length-le}
 use lib.Seq.{take-all, take-nil}
 use Rattle.text.specs.Text.{part}
-
-pub split : (m n : ℕ) → (m ≤ n) ⊎ (n < m)
-split zero n = inl (omega arith)
-split (suc m) zero = inr (omega arith)
-split (suc m) (suc n) = ⊎-elim (λ h. inl (omega arith)) (λ h. inr (omega arith)) (split m n)
+use Rattle.text.proofs.Order.{le-or-lt}
 
 -- where it starts at its end or later, it has nothing
 pub none-of : (l : List ℕ) (a e : ℕ) → e ≤ a → part a e l ≡ []
@@ -32,12 +28,12 @@ module _ (l : List ℕ) (a e s t : ℕ) (he : t ≡ min e (length l)) (ha : s �
       (⊎-elim
       (λ k. let y : t ≡ e = omega arith in rw y)
       (λ k. rest-of l a t (omega arith) ∙ sym (rest-of l a e (omega arith)))
-      (split e (length l)))
+      (le-or-lt e (length l)))
 
   late : t < a → part s t l ≡ part a e l
   late h =
       none-of l s t (omega arith)
-      ∙ sym (⊎-elim (λ k. none-of l a e k) (λ k. past-end l a e (omega arith)) (split e a))
+      ∙ sym (⊎-elim (λ k. none-of l a e k) (λ k. past-end l a e (omega arith)) (le-or-lt e a))
 
   pub clamped : part s t l ≡ part a e l
-  clamped = ⊎-elim early late (split a t)
+  clamped = ⊎-elim early late (le-or-lt a t)

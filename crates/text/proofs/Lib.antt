@@ -1,3 +1,5 @@
+pub mod Order
+pub mod Tests
 pub mod Clamp
 pub mod Same
 pub mod Sets

@@ -5,15 +5,15 @@ use mathlib.Core.Bool.{true}
 use mathlib.Core.List.{List, [], _∷_}
 use lib.Dec.{T, eqb, eqb→eq}
 use borrow.Author.Tests.{eq-eqb}
+use Rattle.text.proofs.Tests.{and-both}
 use Rattle.text.specs.Text.{same}
-use Rattle.text.proofs.Table.{and-left, and-right}
 
 equal : (x y : List ℕ) → T (same x y) → x ≡ y
 equal [] [] t = refl
 equal [] (y ∷ ys) t = absurd t
 equal (x ∷ xs) [] t = absurd t
 equal (x ∷ xs) (y ∷ ys) t =
-    rw (eqb→eq x y (and-left (eqb x y) (same xs ys) t), equal xs ys (and-right (eqb x y) (same xs ys) t))
+    rw (eqb→eq x y (and-both (eqb x y) (same xs ys) .0 t .0), equal xs ys (and-both (eqb x y) (same xs ys) .0 t .1))
 
 pub same-eq : (x y : List ℕ) → same x y ≡ true → x ≡ y
 same-eq x y e = equal x y (subst T (sym e) tt)

@@ -12,10 +12,11 @@ use lib.ListN.{length, getD, take, drop, length-append}
 use lib.Seq.{take-at, drop-at, getD-at}
 use lib.Dec.{lit<}
 use borrow.Author.Tests.{lt-ltb, le-leb}
+use Rattle.text.specs.Big.{value}
 use Rattle.span.specs.declared.Span.{Span}
 use Rattle.tree.specs.Limits.{vecLimit}
 use Rattle.tree.specs.Ans.{ok, Reader, bind, _>>=_, _>>_, done, here, check}
-use Rattle.tree.specs.Read.{within, byte, bytes, value, number, span, caseByte, oneOf, bool, optionCase, option, repeat, count, counted, vec}
+use Rattle.tree.specs.Read.{within, byte, bytes, number, span, caseByte, oneOf, bool, optionCase, option, repeat, count, counted, vec}
 use Rattle.tree.specs.Encode.{big, putSpan, putOption, putVec, putBool}
 use Rattle.tree.specs.Fits.{NumberFits, SpanFits, OptionFits, Each, VecFits}
 

@@ -7,7 +7,7 @@ use native.Mathlib.Numerals.{sub-one}
 use lib.ListN.{length, getD}
 use lib.Dec.{lit<}
 use borrow.Author.Tests.{lt-ltb}
-use Rattle.ast.specs.Tree.{Text, TextNumber, Expr, Exprs, noExpr, moreExpr}
+use Rattle.ast.specs.Tree.{Text, TextNumber, Expr, Exprs, noExpr, moreExpr, exprCount}
 use Rattle.ast.specs.declared.ClassicalType.{ClassicalType}
 use Rattle.ast.specs.declared.ClassicalQualifier.{ClassicalQualifier}
 use Rattle.ast.specs.declared.AssignOp.{AssignOp}
@@ -20,7 +20,7 @@ use Rattle.tree.specs.Read.{repeat}
 use Rattle.tree.specs.Texts.{isName, isFloat}
 use Rattle.tree.specs.Exprs.{constKind, binOp, compareOp, textNumber, intLit, floatLit, boolLit, ident, index, call, const, neg, binary, compare, exprCases, expr}
 use Rattle.tree.specs.Stmts.{classicalType, qualifier, assignOp}
-use Rattle.tree.specs.Encode.{putString, putType, putQualifier, putAssignOp, putBinOp, putCompareOp, putConstKind, exprCount, putExpr, putEach}
+use Rattle.tree.specs.Encode.{putString, putType, putQualifier, putAssignOp, putBinOp, putCompareOp, putConstKind, putExpr, putEach}
 use Rattle.tree.specs.Fits.{StringFits, ExprFits, EachFits}
 use Rattle.tree.proofs.Back.{Reads, seq, seq-end, last, done-reads, seq-here, seq-check, number-reads, span-reads, choice-reads, one-reads, bool-reads, counted-reads}
 

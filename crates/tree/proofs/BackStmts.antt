@@ -6,7 +6,7 @@ use native.Mathlib.Omega.{arith}
 use native.Mathlib.Numerals.{sub-one}
 use lib.ListN.{length, getD}
 use lib.Dec.{lit<}
-use Rattle.ast.specs.Tree.{Text, TextNumber, Expr, Exprs, noExpr, moreExpr, GateOperand, GateModifier, ForRange, Stmt, Stmts, noStmt, moreStmt, Else, noElse, someElse}
+use Rattle.ast.specs.Tree.{Text, TextNumber, Expr, Exprs, noExpr, moreExpr, GateOperand, GateModifier, ForRange, Stmt, Stmts, noStmt, moreStmt, Else, noElse, someElse, exprCount}
 use Rattle.ast.specs.declared.ClassicalType.{ClassicalType}
 use Rattle.ast.specs.declared.ClassicalQualifier.{ClassicalQualifier}
 use Rattle.tree.specs.Limits.{textsLimit, vecLimit, exprLevels}
@@ -15,7 +15,7 @@ use Rattle.tree.specs.Read.{u64, option, vec, repeat}
 use Rattle.tree.specs.Texts.{isName, isPath}
 use Rattle.tree.specs.Exprs.{exprs, name}
 use Rattle.tree.specs.Stmts.{qualifier, slice, body, toElse, elseBody, operand, held, ctrl, negCtrl, inv, pow, modifier, forRange, param, include, qubitDecl, bitDecl, classicalDecl, assignment, gateCall, gateDef, functionDef, measure, reset, barrier, delay, branch, forLoop, whileLoop, stmtCases, stmt}
-use Rattle.tree.specs.Encode.{big, putOption, putVec, putString, putQualifier, exprCount, putExpr, putExprs, putSlice, putOperand, putModifier, putRange, putParam, stmtCount, putCounted, putStmt, putAll, putElse, putBody}
+use Rattle.tree.specs.Encode.{big, putOption, putVec, putString, putQualifier, putExpr, putExprs, putSlice, putOperand, putModifier, putRange, putParam, stmtCount, putCounted, putStmt, putAll, putElse, putBody}
 use Rattle.tree.specs.Fits.{NumberFits, SliceFits, OptionFits, VecFits, NameFits, EachFits, HeldFits, OperandFits, ModifierFits, RangeFits, ParamFits, StmtFits, AllFit, ElseFits}
 use Rattle.tree.proofs.Back.{Reads, seq, last, done-reads, length-big, number-reads, span-reads, choice-reads, none-reads, some-reads, option-reads, vec-reads, counted-reads}
 use Rattle.tree.proofs.BackExprs.{type-reads, qualifier-reads, assign-reads, string-reads, expr-reads, each-reads}

@@ -8,21 +8,15 @@ use lib.ListN.{length, getD, length-append, List·getD-append}
 use lib.Seq.{append-snoc, getD-append-seam}
 use lib.Dec.{eqb}
 use borrow.Author.Tests.{le-leb, eqb-true}
+use Rattle.text.proofs.Same.{same-eq}
+use Rattle.text.specs.Text.{same}
 use Rattle.ast.specs.Tree.{Text}
 use Rattle.tree.specs.Limits.{textsLimit, textLimit}
 use Rattle.tree.specs.Ans.{ok, Reader, bind, _>>_, done, check}
-use Rattle.tree.specs.Texts.{between, allowed, same, among, every, text, moreTexts, texts}
+use Rattle.tree.specs.Texts.{between, allowed, among, every, text, moreTexts, texts}
 use Rattle.tree.specs.Encode.{putText, putTexts}
 use Rattle.tree.specs.Fits.{Each, TextFits, TextsFit}
 use Rattle.tree.proofs.Back.{Reads, seq, seq-end, done-reads, seq-here, seq-check, byte-reads, bytes-reads, number-reads}
-
--- texts that test as the same are equal
-same-true : (x y : Text) → same x y ≡ true → x ≡ y
-unfolding same
-same-true [] [] e = refl
-same-true [] (d ∷ y) e = absurd (false≢true e)
-same-true (c ∷ x) [] e = absurd (false≢true e)
-same-true (c ∷ x) (d ∷ y) e = let h = and-eq-true-iff (eqb c d) (same x y) .0 e in let i : c ≡ d = eqb-true c d (h .0) in let j : x ≡ y = same-true x y (h .1) in cc
 
 -- a text that differs from each is not among them
 among-false : (x : Text) (ys : List Text) → ((i : ℕ) → i < length ys → getD ys i [] ≡ x → ⊥) → among x ys ≡ false
@@ -31,7 +25,7 @@ among-false x [] h = refl
 among-false x (y ∷ ys) h = go (same x y) refl (among-false x ys (λ i l. h (suc i) (omega arith)))
   where
     go : (b : Bool) → same x y ≡ b → among x ys ≡ false → (same x y || among x ys) ≡ false
-    go true e r = absurd (h 0 (omega arith) (sym (same-true x y e)))
+    go true e r = absurd (h 0 (omega arith) (sym (same-eq x y e)))
     go false e r = rw e r
 
 module _ (s : List ℕ) (at : ℕ) where

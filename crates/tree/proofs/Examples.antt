@@ -7,10 +7,11 @@ use mathlib.Core.Bool.{Bool, true, false}
 use native.Mathlib.Omega.{arith}
 use lib.ListN.{replicate}
 use lib.Dec.{lit<, lit≤}
+use Rattle.text.specs.Big.{value}
 use Rattle.ast.specs.Tree.{Program, Stmt, noStmt, moreStmt}
 use Rattle.tree.specs.Ans.{Ans, ok, refused, bind, _>>=_, _>>_, done, here, refuse, check}
-use Rattle.tree.specs.Read.{within, byte, bytes, value, number, span, caseByte, oneOf, bool, optionCase, option, repeat, count, counted}
-use Rattle.tree.specs.Texts.{allowed, same, among, text, moreTexts, texts, letter, digit, every, digits, isName, fraction, isFloat, isPath}
+use Rattle.tree.specs.Read.{within, byte, bytes, number, span, caseByte, oneOf, bool, optionCase, option, repeat, count, counted}
+use Rattle.tree.specs.Texts.{allowed, among, text, moreTexts, texts, letter, digit, every, digits, isName, fraction, isFloat, isPath}
 use Rattle.tree.specs.Exprs.{textNumber, constKind, binOp, compareOp, intLit, floatLit, boolLit, ident, index, call, const, neg, binary, compare, exprCases, expr}
 use Rattle.tree.specs.Stmts.{classicalType, qualifier, assignOp, slice, body, toElse, elseBody, operand, ctrl, negCtrl, inv, pow, modifier, forRange, param, include, qubitDecl, bitDecl, classicalDecl, assignment, gateCall, gateDef, functionDef, measure, reset, barrier, delay, branch, forLoop, whileLoop, stmtCases, stmt}
 use Rattle.tree.specs.Decode.{size, nothingLeft, file, decode}
@@ -19,7 +20,7 @@ use Rattle.tree.specs.Fits.{OptionFits, Each, StmtFits, Fits}
 
 -- the decoder, with all of its readers open
 opened : List ℕ → Ans Program
-unfolding bind _>>=_ _>>_ done here refuse check within byte bytes value number span caseByte oneOf bool optionCase option repeat count counted allowed same among text moreTexts texts letter digit every digits isName fraction isFloat isPath textNumber constKind binOp compareOp intLit floatLit boolLit ident index call const neg binary compare exprCases expr classicalType qualifier assignOp slice body toElse elseBody operand ctrl negCtrl inv pow modifier forRange param include qubitDecl bitDecl classicalDecl assignment gateCall gateDef functionDef measure reset barrier delay branch forLoop whileLoop stmtCases stmt size nothingLeft file decode
+unfolding bind _>>=_ _>>_ done here refuse check within byte bytes value number span caseByte oneOf bool optionCase option repeat count counted allowed among text moreTexts texts letter digit every digits isName fraction isFloat isPath textNumber constKind binOp compareOp intLit floatLit boolLit ident index call const neg binary compare exprCases expr classicalType qualifier assignOp slice body toElse elseBody operand ctrl negCtrl inv pow modifier forRange param include qubitDecl bitDecl classicalDecl assignment gateCall gateDef functionDef measure reset barrier delay branch forLoop whileLoop stmtCases stmt size nothingLeft file decode
 opened s = decode s
 
 -- no text, no statement

@@ -4,8 +4,9 @@ use mathlib.Core.Path.{_≡_}
 use mathlib.Core.List.{List}
 use lib.ListN.{length, getD, take, drop}
 use borrow.Author.Tests.{lt-ltb, le-ltb, le-leb, lt-leb}
+use Rattle.text.specs.Big.{value}
 use Rattle.tree.specs.Ans.{ok, refused, bind, _>>=_, _>>_, done, here, refuse, check}
-use Rattle.tree.specs.Read.{within, byte, bytes, value, number, caseByte}
+use Rattle.tree.specs.Read.{within, byte, bytes, number, caseByte}
 
 module _ (s : List ℕ) (at : ℕ) where
   pub byte-in : at < length s → byte s at ≡ ok (getD s at 0) (at + 1)

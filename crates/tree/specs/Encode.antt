@@ -5,7 +5,7 @@ use mathlib.Core.Option.{Option, none, some}
 use mathlib.Core.Bool.{Bool, true, false}
 use lib.ListN.{length}
 use Rattle.span.specs.declared.Span.{Span}
-use Rattle.ast.specs.Tree.{Text, TextNumber, Expr, Exprs, noExpr, moreExpr, GateOperand, GateModifier, ForRange, Stmt, Stmts, noStmt, moreStmt, Else, noElse, someElse, Program}
+use Rattle.ast.specs.Tree.{Text, TextNumber, Expr, Exprs, noExpr, moreExpr, GateOperand, GateModifier, ForRange, Stmt, Stmts, noStmt, moreStmt, Else, noElse, someElse, Program, exprCount}
 use Rattle.ast.specs.declared.ClassicalType.{ClassicalType}
 use Rattle.ast.specs.declared.ClassicalQualifier.{ClassicalQualifier}
 use Rattle.ast.specs.declared.AssignOp.{AssignOp}
@@ -72,10 +72,6 @@ putConstKind ConstKind.Euler = 2 ∷ []
 -- "String: two-byte text number"
 abbrev pub putString : TextNumber → List ℕ
 putString n = big 2 n
-
-unfoldable pub exprCount : Exprs → ℕ
-exprCount noExpr = 0
-exprCount (moreExpr e es) = suc (exprCount es)
 
 unfoldable mutual
   pub putExpr : Expr → List ℕ

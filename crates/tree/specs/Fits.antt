@@ -6,11 +6,11 @@ use mathlib.Core.Option.{Option, none, some}
 use mathlib.Core.Bool.{Bool, true}
 use lib.ListN.{length, getD}
 use Rattle.span.specs.declared.Span.{Span}
-use Rattle.ast.specs.Tree.{Text, TextNumber, Expr, Exprs, noExpr, moreExpr, GateOperand, GateModifier, ForRange, Stmt, Stmts, noStmt, moreStmt, Else, noElse, someElse, Program}
+use Rattle.ast.specs.Tree.{Text, TextNumber, Expr, Exprs, noExpr, moreExpr, GateOperand, GateModifier, ForRange, Stmt, Stmts, noStmt, moreStmt, Else, noElse, someElse, Program, exprCount}
 use Rattle.ast.specs.declared.ClassicalType.{ClassicalType}
 use Rattle.tree.specs.Limits.{fileLimit, textsLimit, textLimit, vecLimit, stmtLevels, exprLevels}
 use Rattle.tree.specs.Texts.{between, every, isName, isFloat, isPath}
-use Rattle.tree.specs.Encode.{putString, putType, putVec, putExpr, exprCount, putRange, putStmt, stmtCount, putBody, putTexts, encode}
+use Rattle.tree.specs.Encode.{putString, putType, putVec, putExpr, putRange, putStmt, stmtCount, putBody, putTexts, encode}
 
 -- a number has so many bytes
 abbrev pub NumberFits : ℕ → ℕ → Type 0

@@ -7,4 +7,5 @@ pub mod Stmts
 pub mod Decode
 pub mod Encode
 pub mod Fits
+pub mod AnsLaws
 pub mod TextLaws

@@ -5,6 +5,7 @@ use mathlib.Core.Option.{Option, none, some}
 use mathlib.Core.Bool.{Bool, true, false}
 use lib.ListN.{length, getD, take, drop}
 use lib.Dec.{ltb, leb}
+use Rattle.text.specs.Big.{value}
 use Rattle.span.specs.declared.Span.{Span}
 use Rattle.tree.specs.Limits.{vecLimit}
 use Rattle.tree.specs.Ans.{Ans, ok, refused, Reader, _>>=_, _>>_, done, here, check}
@@ -20,11 +21,7 @@ byte s at = within (ltb at (length s)) (length s) (ok (getD s at 0) (at + 1))
 unfoldable pub bytes : ℕ → Reader (List ℕ)
 bytes n s at = within (leb (at + n) (length s)) (length s) (ok (take n (drop at s)) (at + n))
 
--- "numbers big-endian": the first byte counts most
-unfoldable pub value : ℕ → List ℕ → ℕ
-value high [] = high
-value high (b ∷ bs) = value (high * 256 + b) bs
-
+-- "numbers big-endian"
 unfoldable pub number : ℕ → Reader ℕ
 number width = do
   bs ← bytes width

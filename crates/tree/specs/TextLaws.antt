@@ -5,28 +5,11 @@ use mathlib.Core.List.{List, [], _∷_, _++_}
 use mathlib.Core.Bool.{Bool, true, false}
 use native.Mathlib.Omega.{arith}
 use lib.ListN.{length}
+use Rattle.tree.specs.AnsLaws.{Came, came, passed}
 use Rattle.ast.specs.Tree.{Text, Program}
 use Rattle.tree.specs.Ans.{Ans, ok, refused, bind, _>>=_, _>>_, done, here, refuse, check}
 use Rattle.tree.specs.Texts.{between, allowed, text, moreTexts, texts}
 use Rattle.tree.specs.Decode.{size, file, decode}
-
--- a value came of two readers: the first gave one, and the second goes on from it
-pub record Came {A B : Type 0} (a : Ans A) (f : A → ℕ → Ans B) (b : B) (n : ℕ) : Type 0 where
-  pub value : A
-  pub next : ℕ
-  pub from : a ≡ ok value next
-  pub then : f value next ≡ ok b n
-
-pub came : {A B : Type 0} (a : Ans A) (f : A → ℕ → Ans B) (b : B) (n : ℕ) → bind a f ≡ ok b n → Came a f b n
-unfolding bind
-came (ok a k) f b n e = record { value = a; next = k; from = refl; then = e }
-came (refused k p) f b n e = absurd (let z : _≡_ {A = ℕ} 0 1 = cc in omega arith)
-
--- a check that was passed
-pub passed : (b : Bool) (number place : ℕ) (s : List ℕ) (at next : ℕ) (u : Unit {0}) → check b number place s at ≡ ok u next → b ≡ true
-unfolding check refuse
-passed true number place s at next u e = refl
-passed false number place s at next u e = absurd (let z : _≡_ {A = ℕ} 0 1 = cc in omega arith)
 
 abbrev pub Printable : Text → Type 0
 Printable [] = Unit {0}

@@ -3,6 +3,8 @@ use Prim.Native.Nat.{ℕ, zero, suc, _+_}
 use mathlib.Core.List.{List, [], _∷_, _++_}
 use mathlib.Core.Bool.{Bool, true, false, not, _&&_, _||_}
 use lib.Dec.{leb, eqb}
+use lib.ListN.{getD, take, drop}
+use Rattle.text.specs.Text.{same}
 use Rattle.ast.specs.Tree.{Text}
 use Rattle.tree.specs.Limits.{textsLimit, textLimit}
 use Rattle.tree.specs.Ans.{Reader, _>>=_, _>>_, done, here, check}
@@ -18,11 +20,12 @@ allowed (c ∷ cs) place = do
   check (between 33 126 c) 4 place
   allowed cs (place + 1)
 
-unfoldable pub same : Text → Text → Bool
-same [] [] = true
-same [] (d ∷ ds) = false
-same (c ∷ cs) [] = false
-same (c ∷ cs) (d ∷ ds) = eqb c d && same cs ds
+-- the bytes of the text whose length byte is at a place, and the place past them
+abbrev pub textAt : List ℕ → ℕ → Text
+textAt s at = take (getD s at 0) (drop (at + 1) s)
+
+abbrev pub past : List ℕ → ℕ → ℕ
+past s at = at + 1 + getD s at 0
 
 unfoldable pub among : Text → List Text → Bool
 among x [] = false

@@ -9,7 +9,7 @@ use native.Mathlib.Nat.{sub-zero}
 use lib.ListN.{getD, drop, length}
 use lib.Dec.{eqb}
 use Rattle.span.specs.declared.Span.{Span}
-use Rattle.ast.specs.Tree.{Text, Expr, Exprs, noExpr, moreExpr}
+use Rattle.ast.specs.Tree.{Text, Expr, Exprs, noExpr, moreExpr, exprCount}
 use Rattle.ast.specs.declared.ClassicalType.{ClassicalType}
 use Rattle.tree.specs.Ans.{IsOk, nextOf, given}
 use Rattle.tree.specs.Read.{repeat}
@@ -18,7 +18,7 @@ use Rattle.sema.specs.Messages
 use Rattle.sema.specs.Messages.{error, errorWithNote}
 use Rattle.sema.specs.Symbols.{Symbols, FunctionSig, Table}
 use Rattle.sema.specs.Operands.{unless}
-use Rattle.sema.specs.Exprs.{Typing, untyped, exprSpan, argumentSays, rest, count, checkExpr, checkAll, checkArguments}
+use Rattle.sema.specs.Exprs.{Typing, untyped, exprSpan, argumentSays, rest, checkExpr, checkAll, checkArguments}
 use Rattle.context.specs.declared.Sink.{Sink}
 use Rattle.context.specs.declared.Typing.{Typing as TypingValue}
 use Rattle.context.specs.Sink.{SinkFits}
@@ -59,7 +59,7 @@ module _ (ss : Symbols) (fs : Table FunctionSig) where
   all-free (moreExpr e es) x i = rw (append-nil (checkExpr ss fs e .says), all-free es x (suc i))
 
   abbrev said-of : ℕ → Exprs → Span → Option FunctionSig → Typing
-  said-of x args sp f = record { type = calleeType f; says = calleeSays f x (count args) sp ++ checkArguments ss fs args x 0 (paramsOf f) }
+  said-of x args sp f = record { type = calleeType f; says = calleeSays f x (exprCount args) sp ++ checkArguments ss fs args x 0 (paramsOf f) }
 
   -- a call by what its function is
   call-by : (x : ℕ) (args : Exprs) (sp : Span) → checkExpr ss fs (Expr.Call x args sp) ≡ said-of x args sp (fs x)
@@ -71,8 +71,8 @@ module _ (ss : Symbols) (fs : Table FunctionSig) where
         | some sig ↦ record {
           type = some (sig .return-type);
           says =
-              unless (eqb (count args) (length (sig .params)))
-              (errorWithNote (Messages.functionArguments x (length (sig .params)) (count args)) sp Messages.functionDefined (sig .decl-span))
+              unless (eqb (exprCount args) (length (sig .params)))
+              (errorWithNote (Messages.functionArguments x (length (sig .params)) (exprCount args)) sp Messages.functionDefined (sig .decl-span))
               ++ checkArguments ss fs args x 0 (sig .params);
         }
       ] ≡ said-of x args sp f
@@ -80,15 +80,15 @@ module _ (ss : Symbols) (fs : Table FunctionSig) where
       go (some sig) = refl
 
 -- as many arguments as the count says
-args-count : (t : List Text) (left : ℕ) (s : List ℕ) (n k : ℕ) → IsOk (repeat noExpr moreExpr (expr t left) n s k) → count (valueOr noExpr (repeat noExpr moreExpr (expr t left) n s k)) ≡ n
-unfolding count
-args-count t left s zero k h = ap count (value-is (repeat-none s k noExpr moreExpr (expr t left) 0 (omega arith)) noExpr)
+args-count : (t : List Text) (left : ℕ) (s : List ℕ) (n k : ℕ) → IsOk (repeat noExpr moreExpr (expr t left) n s k) → exprCount (valueOr noExpr (repeat noExpr moreExpr (expr t left) n s k)) ≡ n
+unfolding exprCount
+args-count t left s zero k h = ap exprCount (value-is (repeat-none s k noExpr moreExpr (expr t left) 0 (omega arith)) noExpr)
 args-count t left s (suc n) k h =
     let l : 0 < suc n = omega arith in
     let next : ℕ = nextOf (expr t left s k) in
     let r : IsOk (repeat noExpr moreExpr (expr t left) n s next) = rw sub-one at (of.args-rest t left s (suc n) k h l next refl) in
     let e = value-is (of.args-is t left s (suc n) k h l next refl) noExpr in
-    ap count e ∙ ap suc (rw sub-one (args-count t left s n next r))
+    ap exprCount e ∙ ap suc (rw sub-one (args-count t left s n next r))
 
 -- the arguments from number i on stand from k on, and what is said of them is still to be said
 pub record Arguing (t : List Text) (ss : Symbols) (fs : Table FunctionSig) (left : ℕ) (tree : List ℕ) (at x : ℕ) (ps : List ClassicalType) (n : ℕ) (s₀ : Sink) (o₀ : List ℕ) (k i : ℕ) (s : Sink) (o : List ℕ) : Type 0 where
@@ -134,7 +134,7 @@ module _ (t : List Text) (ss : Symbols) (fs : Table FunctionSig) (left : ℕ) (s
   call-typing {x = x} {k = k} {n = n} {sp = sp} e end g c p q =
       let a = of.call-args t left s at h b in
       let args : Exprs = valueOr noExpr (exprs (expr t (left - 1)) s (at + 3)) in
-      let many : n ≡ count args = c ∙ sym (rw (counted-is s (at + 3) noExpr moreExpr (expr t (left - 1)) a) (args-count t (left - 1) s (getD s (at + 3) 0) (at + 3 + 1) (counted-held s (at + 3) noExpr moreExpr (expr t (left - 1)) a))) in
+      let many : n ≡ exprCount args = c ∙ sym (rw (counted-is s (at + 3) noExpr moreExpr (expr t (left - 1)) a) (args-count t (left - 1) s (getD s (at + 3) 0) (at + 3 + 1) (counted-held s (at + 3) noExpr moreExpr (expr t (left - 1)) a))) in
       typing-is (of.call-is t left s at h b k end)
       (rw (← e, ← g, call-by ss fs x args sp) (record {
         next = refl;

@@ -41,6 +41,8 @@ use denote.Triple.Table.{entered, cited}
 use denote.Triple.Walked.{says, needs, Stays, stay-none, stay-none-slice, walkOf, goes-none, goes-none-slice, Walks, ends-at, walked, walk-meets}
 use denote.Exit.{yes}
 use denote.Triple.Clauses.{ensured, lasts}
+use native.Mathlib.Nat.{lt-of-le-of-lt}
+use native.Mathlib.Numerals.{add-one-le}
 use Rattle.tree.specs.Ans.{ok, IsOk}
 use Rattle.tree.specs.Read as Read
 use Rattle.context.specs.View.{numberAt}
@@ -101,12 +103,6 @@ with-is p n fits n-fits = LL.owes S.the-type S′.the-laws (with p n) (some-is n
 -- the test's outcome
 not-zero : (b : ℕ) → Holds (not (eqb b 0)) → b ≡ 0 → ⊥
 not-zero b h e = T-not (eqb b 0) h (rw e (eqb-refl 0))
-
-next-in : (p n : ℕ) → p < n → p + 1 ≤ n
-next-in p n l = omega arith
-
-below : (a n m : ℕ) → a ≤ n → n < m → a < m
-below a n m l h = omega arith
 
 behind : (p n : ℕ) → p + 9 ≤ n → p + 1 + 8 ≤ n
 behind p n l = omega arith
@@ -208,11 +204,11 @@ module _ {M : Type 1} (𝓤 : URA M) (H : Heap 𝓤) (A : Atoms 𝓤) (W : Given
         (λ more.
         let z : getD (now s) p 0 ≡ 0 → ⊥ = λ z. not-zero b more (e ∙ z) in
         let inside : p + 9 ≤ length (now s) = someNumber-inside _ _ h z in
-        let f₉ : p + 9 < 2 ^ 64 = below _ _ _ inside (st .1 .0 .fits) in
+        let f₉ : p + 9 < 2 ^ 64 = lt-of-le-of-lt inside (st .1 .0 .fits) in
         skips ! $ exec ! C Λ _ body.t-6 (atRet _ Post) $
         -- [the token; what the struct owns; the parts; _13; …]
         assigns ! (of-opd ! (load ! (from ! (stop !)) (look ! 23 refl))) (from ! (stop !)) (init ! 7 refl wt) $
-        move ! (1 ∷ 0 ∷ []) $ use2 W (raw (Skip 𝓤 H A mem run .pre to-skip)) (goes-skip (next-in _ _ (option-in _ _ _ h))) $
+        move ! (1 ∷ 0 ∷ []) $ use2 W (raw (Skip 𝓤 H A mem run .pre to-skip)) (goes-skip (add-one-le (option-in _ _ _ h))) $
         calls-at ! fm (Skip 𝓤 H A mem run) known-skip to-skip (and-then ! (load ! (from ! (stop !)) (look ! 6 refl)) (and-then ! (lit ! tt) (no-more !))) (λ u₁.
         use1 W (later (some (λ (r : TreeReader). ((‵ (flft κ q) ⊛ ‵ ftrue) ⊛ ‵ (B (κ, tt) .own r (u₁ ∷ []))) ⊛ raw (ensured 𝓤 H A skip.ended (skip.clauses 𝓤 H A mem run) (κ, tt) (d, (1, tt)) tt r)))) (id⊢ 𝓤 _) $ await ! tt $ pick ! (λ r.
         split ! $ move ! (1 ∷ []) $ use1 W (raw (fact 𝓤 (Further r))) (skip-said r) $ heard ! (Further r) (λ e₁. split ! $ move ! (1 ∷ []) $
@@ -241,7 +237,7 @@ module _ {M : Type 1} (𝓤 : URA M) (H : Heap 𝓤) (A : Atoms 𝓤) (W : Given
         wt = (tt, (st, (record { fits = fits }, tt)))
 
         f₁ : p + 1 < 2 ^ 64
-        f₁ = below _ _ _ (next-in _ _ (option-in _ _ _ h)) (st .1 .0 .fits)
+        f₁ = lt-of-le-of-lt (add-one-le (option-in _ _ _ h)) (st .1 .0 .fits)
 
 module _ {M : Type 1} (𝓤 : URA M) (H : Heap 𝓤) (A : Atoms 𝓤) (W : Given 𝓤 H A) (mem : Memory → SProp 𝓤) (run : Routine → Fun 𝓤) where
   number-at-walks : (C : Calls 𝓤 H) (Λ : Loops 𝓤 H) → FmC 𝓤 H (W .laws) C → Triple 𝓤 (C #byte) (Byte 𝓤 H A mem run) → Triple 𝓤 (C #skip) (Skip 𝓤 H A mem run) → Triple 𝓤 (C #number) (Eight 𝓤 H A mem run)

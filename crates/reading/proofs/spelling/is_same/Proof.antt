@@ -1,10 +1,10 @@
 -- `reading::spelling::is_same` meets its contract. Assumes nothing.
-use Rattle.tree.specs.Texts.{same}
 use lib.ListN.{length, drop}
 use Prim.Native.Nat.{_-_}
 use mathlib.Core.Path.{_≡_, refl}
 use mathlib.Core.Bool.{_&&_}
 use mathlib.Core.Logic.{⊎-elim}
+use Rattle.text.specs.Text.{same}
 use Rattle.reading.proofs.Spelled.{comparing}
 use borrow.Author.Needs.{needs}
 use Rattle.reading.proofs.spelling.is_same.Statement.{statement}
