@@ -11,10 +11,10 @@ use Rattle.tree.specs.Decode.{decode}
 use Rattle.sema.specs.Keys.{keys}
 use Rattle.sema.specs.Stmts.{analyze}
 use Rattle.answer.specs.Answer.{judgeDiagnostics, judgeProgram}
-use Rattle.context.specs.View.{TextsAt, keysIn}
+use Rattle.context.specs.View.{TextsAt, keysIn, scopesOf}
 use Rattle.sheet.specs.Sheet.{KeysAdded}
 use Rattle.sheet.specs.Different.{distinct-keys}
-use Rattle.tables.specs.Tables.{Begun}
+use Rattle.tables.specs.Tables.{Entered}
 use Rattle.accepted.specs.Files.{file-small}
 use Rattle.keys.specs.declared.Keys.{Keys}
 use Rattle.keys.specs.Collected.{BodyCollected}
@@ -28,8 +28,9 @@ use Rattle.checker.proofs.Programs.{program-is, program-body}
 use Rattle.checker.proofs.Runs.{rest-past}
 use Rattle.checker.proofs.Judging.{keys-many, keys-fit}
 
-module _ (tree : List ℕ) (h : IsOk (decode tree)) (at : ℕ) (e : at ≡ nextOf (texts tree 0)) (index index′ s s₁ s′ : List ℕ) (k r : Keys) (x : TextsAt tree index) (z : Begun s s₁) (c : BodyCollected tree 8 k index index′ s₁ s′ r) (ka : k .at ≡ at) (kc : k .count ≡ 0) where
+module _ (tree : List ℕ) (h : IsOk (decode tree)) (at : ℕ) (e : at ≡ nextOf (texts tree 0)) (index index′ s s₁ s′ : List ℕ) (k r : Keys) (x : TextsAt tree index) (z : Entered s s₁ 0) (c : BodyCollected tree 8 k index index′ s₁ s′ r) (ka : k .at ≡ at) (kc : k .count ≡ 0) where
   added : KeysAdded index index′ (r .count) (keys (programOf tree))
+  unfolding scopesOf
   added =
       keys-collected tree index index′ s₁ s′ k r c kc (z .scopes-are) (rw ka (program-body tree h at e)) (programOf tree)
       (rw ka (ap (λ (p : Program). p .statements) (program-is tree h at e)))

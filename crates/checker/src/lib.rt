@@ -1,6 +1,5 @@
 // The checking list of a tree.
 use context::Sink;
-use context::State;
 use keys::Keys;
 use reader::Validated;
 use verdict::Answer;
@@ -43,16 +42,8 @@ fn run(
         errors: 0,
         warnings: 0,
     };
-    let marks = sheet::blank();
-    let r = walk::analyze_stmts(
-        tree,
-        index,
-        scratch,
-        out,
-        keys,
-        8,
-        State { at, sink, marks },
-    );
+    let mut marks = sheet::blank();
+    let r = walk::analyze_stmts(tree, index, scratch, out, keys, 8, &mut marks, at, sink);
     r.sink
 }
 
@@ -140,7 +131,7 @@ fn check_program(tree: &[u8], scratch: &mut [u8], listing: &mut [u8]) -> Answer
 {
     let mut index = [0u64; 768];
     let at = index::place_texts(tree, &mut index);
-    tables::begin(scratch);
+    tables::enter(scratch, 0); // the keys go by the scopes alone
     let k = keys::collect(tree, &mut index, scratch, 8, Keys { at, count: 0 });
     let count = k.count;
     if 256 < count {

@@ -102,10 +102,3 @@ pub struct After {
     pub next: usize,
     pub sink: Sink,
 }
-
-// The walk: the place in the tree, the listing, the marks.
-pub struct State {
-    pub at: usize,
-    pub sink: Sink,
-    pub marks: [u16; 256],
-}

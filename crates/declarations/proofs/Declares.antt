@@ -20,7 +20,6 @@ use Rattle.sema.specs.Stmts.{analyzeStmt}
 use Rattle.accepted.specs.Parts.{next-is, given-is}
 use Rattle.accepted.specs.Stmts.{qubitDecl-is, bitDecl-is}
 use Rattle.context.specs.declared.Sink.{Sink}
-use Rattle.context.specs.declared.State.{State}
 use Rattle.context.specs.declared.Symbol.{Symbol as SymbolValue}
 use Rattle.context.specs.declared.FoundSymbol.{FoundSymbol}
 use Rattle.context.specs.Values.{numberOf, kindOf, foundOf}
@@ -28,7 +27,7 @@ use Rattle.context.specs.View.{keysIn, scopesOf, gatesOf, functionsOf, marksOf,
 use Rattle.tables.specs.Tables.{Becomes, FewParams}
 use Rattle.tables.specs.Laws.{few-after}
 use Rattle.promises.specs.Emitted.{Emitted, emitted-as}
-use Rattle.promises.specs.Walks.{Ready, StmtWalked}
+use Rattle.promises.specs.Walks.{State, Ready, StmtWalked}
 use Rattle.promises.specs.WalkLaws.{marks-kept, context-is, stmt-walked}
 use Rattle.declarations.specs.Says.{declaredSays}
 use Rattle.declarations.specs.Checked.{Declared}

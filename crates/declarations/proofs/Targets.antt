@@ -23,7 +23,6 @@ use Rattle.accepted.specs.Parts.{valueOr, given-ok}
 use Rattle.accepted.specs.Exprs.{expr-end}
 use Rattle.accepted.specs.Stmts.{assignment-value, assignment-is}
 use Rattle.context.specs.declared.Sink.{Sink}
-use Rattle.context.specs.declared.State.{State}
 use Rattle.context.specs.declared.Typing.{Typing}
 use Rattle.context.specs.declared.Symbol.{Symbol as SymbolValue}
 use Rattle.context.specs.declared.FoundSymbol.{FoundSymbol}
@@ -33,7 +32,7 @@ use Rattle.lines.specs.declared.Message.{Message}
 use Rattle.lines.specs.Values.{diagnosticOf, errorOf}
 use Rattle.promises.specs.Emitted.{Emitted, emitted-then, emitted-as}
 use Rattle.promises.specs.Typings.{TypingOf}
-use Rattle.promises.specs.Walks.{Ready, StmtWalked}
+use Rattle.promises.specs.Walks.{State, Ready, StmtWalked}
 use Rattle.promises.specs.WalkLaws.{marks-kept, context-is, same-walked}
 use Rattle.declarations.specs.Says.{spanned, targetBy}
 use Rattle.declarations.specs.Spans.{expr-long, span-last}

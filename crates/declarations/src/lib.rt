@@ -19,7 +19,7 @@ ghost use Rattle.context.specs.Values.{typedOf};
 ghost use Rattle.context.specs.View.{TextsAt, spanAt, typeOf, scopesOf, functionsOf};
 ghost use Rattle.tables.specs.Tables.{FewParams};
 ghost use Rattle.promises.specs.Emitted.{Emitted};
-ghost use Rattle.promises.specs.Walks.{Walkable, Ready, StmtWalked};
+ghost use Rattle.promises.specs.Walks.{Passable, StmtPassed};
 ghost use Rattle.declarations.specs.Says.{classicalRest, spanned, targetBy};
 ghost use Rattle.declarations.specs.Checked.{Checkable, Declared, initAt, Defined, BodyChecked};
 use accepted::numbers::span_at;
@@ -27,10 +27,10 @@ use accepted::numbers::u16_at;
 use accepted::numbers::wide;
 use accepted::parts::skip_qualifier;
 use ast::ClassicalType;
+use context::After;
 use context::FoundFunction;
 use context::FoundSymbol;
 use context::Sink;
-use context::State;
 use context::Symbol;
 use context::Typing;
 use lines::Message;
@@ -72,23 +72,19 @@ pub fn register(
     index: &[u64],
     scratch: &mut [u8],
     out: &mut [u8],
-    keys: usize,
     left: usize,
-    st: State,
-) -> State
-    requires { ⌜ Walkable (now tree) (now index) keys × Ready (now tree) (now scratch) st × IsOk (stmt (textsOf (now tree)) left (now tree) (st .at)) × (left ≤ 8) × (0 < getD (now tree) (st .at) 0) × (getD (now tree) (st .at) 0 < 3) ⌝ }
-    ensures { λ r. ⌜ StmtWalked (now (tree .entry)) (now (index .entry)) keys left st (now (scratch .entry)) (now (out .entry)) r (now (scratch .exit)) (now (out .exit)) ⌝ }
+    at: usize,
+    sink: Sink,
+) -> After
+    requires { ⌜ Passable (now tree) (now index) (now scratch) sink × IsOk (stmt (textsOf (now tree)) left (now tree) at) × (left ≤ 8) × (0 < getD (now tree) at 0) × (getD (now tree) at 0 < 3) ⌝ }
+    ensures { λ r. ⌜ StmtPassed (now (tree .entry)) (now (index .entry)) left at sink (now (scratch .entry)) (now (out .entry)) r (now (scratch .exit)) (now (out .exit)) ⌝ }
 {
-    let at = st.at;
-    let sink = st.sink;
-    let marks = st.marks;
     let d = scopes::declaration_at(tree, at, left);
     let symbol = d.symbol;
     let s = declare(tree, index, scratch, out, 9 - left, d.name, symbol, sink);
-    State {
-        at: d.end,
+    After {
+        next: d.end,
         sink: s,
-        marks,
     }
 }
 
@@ -152,16 +148,13 @@ pub fn classical_decl(
     index: &[u64],
     scratch: &mut [u8],
     out: &mut [u8],
-    keys: usize,
     left: usize,
-    st: State,
-) -> State
-    requires { ⌜ Walkable (now tree) (now index) keys × Ready (now tree) (now scratch) st × IsOk (stmt (textsOf (now tree)) left (now tree) (st .at)) × (left ≤ 8) × (getD (now tree) (st .at) 0 ≡ 3) ⌝ }
-    ensures { λ r. ⌜ StmtWalked (now (tree .entry)) (now (index .entry)) keys left st (now (scratch .entry)) (now (out .entry)) r (now (scratch .exit)) (now (out .exit)) ⌝ }
+    at: usize,
+    sink: Sink,
+) -> After
+    requires { ⌜ Passable (now tree) (now index) (now scratch) sink × IsOk (stmt (textsOf (now tree)) left (now tree) at) × (left ≤ 8) × (getD (now tree) at 0 ≡ 3) ⌝ }
+    ensures { λ r. ⌜ StmtPassed (now (tree .entry)) (now (index .entry)) left at sink (now (scratch .entry)) (now (out .entry)) r (now (scratch .exit)) (now (out .exit)) ⌝ }
 {
-    let at = st.at;
-    let sink = st.sink;
-    let marks = st.marks;
     let d = scopes::declaration_at(tree, at, left);
     let symbol = d.symbol;
     let span = symbol.decl_span;
@@ -178,10 +171,9 @@ pub fn classical_decl(
         span,
         s,
     );
-    State {
-        at: d.end,
+    After {
+        next: d.end,
         sink: r,
-        marks,
     }
 }
 
@@ -215,16 +207,13 @@ pub fn assignment(
     index: &[u64],
     scratch: &[u8],
     out: &mut [u8],
-    keys: usize,
     left: usize,
-    st: State,
-) -> State
-    requires { ⌜ Walkable (now tree) (now index) keys × Ready (now tree) (now scratch) st × IsOk (stmt (textsOf (now tree)) left (now tree) (st .at)) × (left ≤ 8) × (getD (now tree) (st .at) 0 ≡ 4) ⌝ }
-    ensures { λ r. ⌜ StmtWalked (now (tree .entry)) (now (index .entry)) keys left st (now (scratch .entry)) (now (out .entry)) r (now (scratch .entry)) (now (out .exit)) ⌝ }
+    at: usize,
+    sink: Sink,
+) -> After
+    requires { ⌜ Passable (now tree) (now index) (now scratch) sink × IsOk (stmt (textsOf (now tree)) left (now tree) at) × (left ≤ 8) × (getD (now tree) at 0 ≡ 4) ⌝ }
+    ensures { λ r. ⌜ StmtPassed (now (tree .entry)) (now (index .entry)) left at sink (now (scratch .entry)) (now (out .entry)) r (now (scratch .entry)) (now (out .exit)) ⌝ }
 {
-    let at = st.at;
-    let sink = st.sink;
-    let marks = st.marks;
     let t = typing::check_expr(tree, index, scratch, out, 9 - left, at + 4, 32, sink);
     let x = u16_at(tree, at + 1);
     let end = t.next;
@@ -240,10 +229,9 @@ pub fn assignment(
         t,
         span,
     );
-    State {
-        at: end + 8,
+    After {
+        next: end + 8,
         sink: s,
-        marks,
     }
 }
 
@@ -300,22 +288,18 @@ pub fn function_def(
     index: &[u64],
     scratch: &mut [u8],
     out: &mut [u8],
-    keys: usize,
     left: usize,
-    st: State,
-) -> State
-    requires { ⌜ Walkable (now tree) (now index) keys × Ready (now tree) (now scratch) st × IsOk (stmt (textsOf (now tree)) left (now tree) (st .at)) × (left ≤ 8) × (getD (now tree) (st .at) 0 ≡ 7) ⌝ }
-    ensures { λ r. ⌜ StmtWalked (now (tree .entry)) (now (index .entry)) keys left st (now (scratch .entry)) (now (out .entry)) r (now (scratch .exit)) (now (out .exit)) ⌝ }
+    at: usize,
+    sink: Sink,
+) -> After
+    requires { ⌜ Passable (now tree) (now index) (now scratch) sink × IsOk (stmt (textsOf (now tree)) left (now tree) at) × (left ≤ 8) × (getD (now tree) at 0 ≡ 7) ⌝ }
+    ensures { λ r. ⌜ StmtPassed (now (tree .entry)) (now (index .entry)) left at sink (now (scratch .entry)) (now (out .entry)) r (now (scratch .exit)) (now (out .exit)) ⌝ }
 {
-    let at = st.at;
-    let sink = st.sink;
-    let marks = st.marks;
     let f = function_at(tree, at, left);
     let s = define(tree, index, scratch, out, at + 3, f, sink);
     let r = check_body(tree, index, scratch, out, 9 - left, at + 3, f, s);
-    State {
-        at: f.end,
+    After {
+        next: f.end,
         sink: r,
-        marks,
     }
 }

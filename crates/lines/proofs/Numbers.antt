@@ -3,8 +3,7 @@ use Prim.Native.Nat.{ℕ, zero, suc, _<_, _≤_, _+_, _-_, _/_, _%_}
 use mathlib.Core.Path.{_≡_, refl, sym, ap, _∙_}
 use mathlib.Core.List.{List, [], _∷_, _++_, append-assoc, append-nil}
 use native.Mathlib.Omega.{arith}
-use lib.ListN.{length, take, drop, set, replicate, length-set, length-take, length-drop, drop-of-length-le}
-use lib.Seq.{take-all}
+use lib.ListN.{length, take, drop, set, replicate, length-set, length-take, drop-of-length-le}
 use native.Mathlib.Nat.{le-of-eq}
 use Rattle.text.proofs.Clamp.{rest-of}
 use Rattle.text.specs.Decimal.{decimal}

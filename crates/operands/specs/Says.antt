@@ -2,6 +2,7 @@
 use mathlib.Core.Path.{_≡_}
 use mathlib.Core.List.{List, [], _∷_, _++_}
 use mathlib.Core.Option.{none, some}
+use mathlib.Core.Bool.{Bool, true, false}
 use Rattle.ast.specs.Tree.{GateOperand}
 use Rattle.sema.specs.Messages
 use Rattle.sema.specs.Messages.{Expected, Diagnostic, error, errorWithNote}
@@ -13,6 +14,11 @@ unfoldable pub kindSays : GateOperand → Symbol → Expected → List Diagnosti
 kindSays op sym expected =
     unless (fits expected (sym .kind))
     (errorWithNote (Messages.expectedKind expected (op .name) (sym .kind)) (op .span) (Messages.declaredAs (op .name) (sym .kind)) (sym .decl-span))
+
+-- nothing is said
+unfoldable pub nothing : List Diagnostic → Bool
+nothing [] = true
+nothing (d ∷ ds) = false
 
 -- a name that is not declared, and one that is
 module _ (ss : Symbols) (op : GateOperand) (expected : Expected) where

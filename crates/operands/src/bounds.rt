@@ -1,4 +1,5 @@
 // What is said of an operand whose name is declared: its kind, its index, its slice.
+ghost use mathlib.Core.Path.{_≡_};
 ghost use Prim.Native.Nat.{_<_};
 ghost use lib.ListN.{length};
 ghost use Rattle.tree.specs.Decode.{textsOf};
@@ -8,7 +9,7 @@ ghost use Rattle.context.specs.Values.{numberOf, endsOf, operandOf, symbolOf};
 ghost use Rattle.context.specs.View.{TextsAt};
 ghost use Rattle.lines.specs.Values.{expectedOf, errorWithNoteOf, Fits, Reported};
 ghost use Rattle.promises.specs.Emitted.{Emitted};
-ghost use Rattle.operands.specs.Says.{kindSays};
+ghost use Rattle.operands.specs.Says.{kindSays, nothing};
 use crate::kinds::fits;
 use crate::kinds::indexes_wire;
 use crate::kinds::within;
@@ -150,6 +151,50 @@ fn check_slice(
         Note::DeclaredWithSize(op.name, n),
         sink,
     )
+}
+
+// Has check_index nothing to say?
+fn keeps_index(op: GateOperand, symbol: Symbol) -> bool
+    ensures { λ r. ⌜ r ≡ nothing (indexSays (operandOf op) (symbolOf symbol) (numberOf (op .index)) (numberOf (symbol .size))) ⌝ }
+{
+    let at = op.index;
+    let Number::Some(i) = at else {
+        return true;
+    };
+    let size = symbol.size;
+    let Number::Some(n) = size else {
+        return false;
+    };
+    i < n
+}
+
+// Has check_slice nothing to say?
+fn keeps_slice(op: GateOperand, symbol: Symbol) -> bool
+    ensures { λ r. ⌜ r ≡ nothing (sliceSays (operandOf op) (symbolOf symbol) (endsOf (op .slice)) (numberOf (symbol .size))) ⌝ }
+{
+    let slice = op.slice;
+    let Ends::Some(a, b) = slice else {
+        return true;
+    };
+    let size = symbol.size;
+    let Number::Some(n) = size else {
+        return false;
+    };
+    within(a, b, n)
+}
+
+// Has check_bounds nothing to say?
+pub fn keeps_bounds(op: GateOperand, symbol: Symbol) -> bool
+    ensures { λ r. ⌜ r ≡ nothing (boundsSay (operandOf op) (symbolOf symbol)) ⌝ }
+{
+    let kind = symbol.kind;
+    if indexes_wire(op, kind) {
+        return false;
+    }
+    if keeps_index(op, symbol) {
+        return keeps_slice(op, symbol);
+    }
+    false
 }
 
 // A gate qubit must not be indexed; else the bounds of index and slice.

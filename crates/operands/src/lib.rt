@@ -36,6 +36,7 @@ ghost use Rattle.context.specs.View.{TextsAt, Placed, keysIn, scopesOf, marksOf
 ghost use Rattle.lines.specs.Values.{expectedOf};
 ghost use Rattle.sheet.specs.Sheet.{Indexed, Distinct};
 ghost use Rattle.promises.specs.Emitted.{Emitted};
+ghost use Rattle.operands.specs.Says.{nothing};
 ghost use Rattle.operands.specs.Widths.{measureWidths, uniform, agree};
 
 pub fn check_operand(
@@ -147,7 +148,22 @@ fn check_use_after_measure(
     )
 }
 
-// An operand of a gate call, a barrier or a delay.
+// Has check_operand nothing to say?
+fn is_quiet(scratch: &[u8], depth: usize, op: GateOperand, expected: Expected) -> bool
+    requires { ⌜ (65536 ≤ length (now scratch)) × (depth ≤ 9) × (op .name < 256) ⌝ }
+    ensures { λ r. ⌜ r ≡ nothing (checkOperand (scopesOf (now (scratch .entry)) depth) (operandOf op) (expectedOf expected)) ⌝ }
+{
+    let FoundSymbol::Some(symbol) = tables::get(scratch, depth, op.name) else {
+        return false;
+    };
+    let kind = symbol.kind;
+    if kinds::fits(expected, kind) {
+        return bounds::keeps_bounds(op, symbol);
+    }
+    false
+}
+
+// An operand of a gate call, a barrier or a delay. Of most there is nothing to say but of their use.
 fn use_operand(
     tree: &[u8],
     index: &[u64],
@@ -163,6 +179,9 @@ fn use_operand(
     requires { ⌜ TextsAt (now tree) (now index) × (65536 ≤ length (now scratch)) × (depth ≤ 9) × Indexed (now index) keys × Distinct (keysIn (now index) keys) × Placed (now tree) (now marks) × (op .name < length (textsOf (now tree))) × SinkFits sink ⌝ }
     ensures { λ r. ⌜ Emitted (textsOf (now (tree .entry))) (checkOperand (scopesOf (now (scratch .entry)) depth) (operandOf op) aQubit ++ checkUseAfterMeasure (marksOf (now (tree .entry)) (keysIn (now (index .entry)) keys) (now (marks .entry))) (operandOf op) span) sink (now (out .entry)) r (now (out .exit)) ⌝ }
 {
+    if is_quiet(scratch, depth, op, Expected::Qubit) {
+        return check_use_after_measure(tree, index, out, keys, marks, op, span, sink);
+    }
     let s = check_operand(tree, index, scratch, out, depth, op, Expected::Qubit, sink);
     check_use_after_measure(tree, index, out, keys, marks, op, span, s)
 }
@@ -183,6 +202,7 @@ pub fn use_operands(
     requires { ⌜ TextsAt (now tree) (now index) × (65536 ≤ length (now scratch)) × (depth ≤ 9) × Indexed (now index) keys × Distinct (keysIn (now index) keys) × Placed (now tree) (now marks) × IsOk (vec (operand (textsOf (now tree))) (now tree) at) × SinkFits sink ⌝ }
     ensures { λ r. ⌜ Emitted (textsOf (now (tree .entry))) (given [] (useOperands (scopesOf (now (scratch .entry)) depth) (marksOf (now (tree .entry)) (keysIn (now (index .entry)) keys) (now (marks .entry))) span) (vec (operand (textsOf (now (tree .entry)))) (now (tree .entry)) at)) sink (now (out .entry)) r (now (out .exit)) ⌝ }
 {
+    let tree = &tree[..];
     let mut n = wide(tree[at]);
     let mut k = at + 1;
     let mut s = sink;

@@ -2,15 +2,14 @@
 use Prim.Native.Nat.{ℕ, _+_, _<_}
 use mathlib.Core.Path.{_≡_, refl, sym, ap, _∙_}
 use mathlib.Core.List.{List, []}
-use mathlib.Core.Option.{Option, none, some}
 use lib.ListN.{length, getD}
 use Rattle.span.specs.declared.Span.{Span}
-use Rattle.ast.specs.Tree.{Text, noExpr, moreExpr, GateModifier, exprCount}
+use Rattle.ast.specs.Tree.{Text, noExpr, moreExpr, exprCount}
 use Rattle.tree.specs.Ans.{IsOk, nextOf}
 use Rattle.tree.specs.Read.{vec}
 use Rattle.tree.specs.Exprs.{exprs}
 use Rattle.tree.specs.Stmts.{held, modifier, operand, stmt}
-use Rattle.sema.specs.Constants.{modifierControlCount, controls, or0}
+use Rattle.sema.specs.Constants.{controls, or0}
 use Rattle.context.specs.View.{numberAt, spanAt, TextsAt, textPlace}
 use Rattle.tree.specs.Decode.{textsOf}
 use Rattle.text.specs.Text.{part}

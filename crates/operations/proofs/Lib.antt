@@ -1,4 +1,3 @@
-pub mod Operations
 pub mod Simple
 pub mod Measured
 pub mod Counted

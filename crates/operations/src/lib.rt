@@ -3,7 +3,6 @@ mod calls;
 mod measures;
 
 ghost use mathlib.Core.Path.{_≡_};
-ghost use mathlib.Core.Bool.{true};
 ghost use Prim.Native.Nat.{_+_, _-_, _≤_};
 ghost use lib.ListN.{length, getD};
 ghost use Rattle.tree.specs.Ans.{IsOk, nextOf};
@@ -14,8 +13,7 @@ ghost use Rattle.sema.specs.Operands.{useOperands};
 ghost use Rattle.context.specs.Sink.{SinkFits};
 ghost use Rattle.context.specs.View.{Placed, scopesOf, keysIn, marksOf, spanAt};
 ghost use Rattle.promises.specs.Typings.{SaidOf};
-ghost use Rattle.promises.specs.Walks.{stateOf, Walkable, Ready, StmtKeyed, StmtWalked};
-ghost use Rattle.operations.specs.Operations.{isOperation};
+ghost use Rattle.promises.specs.Walks.{stateOf, Walkable, Ready, Passable, StmtKeyed, StmtWalked, StmtPassed};
 use accepted::numbers::span_at;
 use accepted::operands::operand_at;
 use accepted::parts::skip_operands;
@@ -25,7 +23,6 @@ use calls::check_signature;
 use calls::check_values;
 use context::After;
 use context::Sink;
-use context::State;
 use lines::Expected;
 use lines::Message;
 use measures::check_measure;
@@ -37,20 +34,16 @@ pub fn include(
     index: &[u64],
     scratch: &[u8],
     out: &mut [u8],
-    keys: usize,
     left: usize,
-    st: State,
-) -> State
-    requires { ⌜ Walkable (now tree) (now index) keys × Ready (now tree) (now scratch) st × IsOk (stmt (textsOf (now tree)) left (now tree) (st .at)) × (left ≤ 8) × (getD (now tree) (st .at) 0 ≡ 0) ⌝ }
-    ensures { λ r. ⌜ StmtWalked (now (tree .entry)) (now (index .entry)) keys left st (now (scratch .entry)) (now (out .entry)) r (now (scratch .entry)) (now (out .exit)) ⌝ }
+    at: usize,
+    sink: Sink,
+) -> After
+    requires { ⌜ Passable (now tree) (now index) (now scratch) sink × IsOk (stmt (textsOf (now tree)) left (now tree) at) × (left ≤ 8) × (getD (now tree) at 0 ≡ 0) ⌝ }
+    ensures { λ r. ⌜ StmtPassed (now (tree .entry)) (now (index .entry)) left at sink (now (scratch .entry)) (now (out .entry)) r (now (scratch .entry)) (now (out .exit)) ⌝ }
 {
-    let at = st.at;
-    let sink = st.sink;
-    let marks = st.marks;
-    State {
-        at: at + 11,
+    After {
+        next: at + 11,
         sink,
-        marks,
     }
 }
 
@@ -87,7 +80,7 @@ fn use_targets(
 }
 
 // A barrier uses its operands.
-fn barrier(
+pub fn barrier(
     tree: &[u8],
     index: &[u64],
     scratch: &[u8],
@@ -120,7 +113,7 @@ fn barrier(
 }
 
 // A delay: a numeric duration, and the operands it uses.
-fn delay(
+pub fn delay(
     tree: &[u8],
     index: &[u64],
     scratch: &[u8],
@@ -164,7 +157,7 @@ fn delay(
 }
 
 // A reset clears the marks of its operand.
-fn reset(
+pub fn reset(
     tree: &[u8],
     index: &[u64],
     scratch: &[u8],
@@ -198,7 +191,7 @@ fn reset(
 }
 
 // A measurement: its operands, and the marks that it sets.
-fn measure(
+pub fn measure(
     tree: &[u8],
     index: &[u64],
     scratch: &[u8],
@@ -237,7 +230,7 @@ fn measure(
 }
 
 // A gate call: its arity, its modifiers and parameters, and its operands.
-fn gate_call(
+pub fn gate_call(
     tree: &[u8],
     index: &[u64],
     scratch: &[u8],
@@ -271,40 +264,5 @@ fn gate_call(
     After {
         next: call.end + 8,
         sink: said,
-    }
-}
-
-// Is the statement with this case byte a gate call, a measurement, a reset, a barrier or a delay?
-pub fn is_operation(case: u8) -> bool
-    ensures { λ r. ⌜ r ≡ isOperation case ⌝ }
-{
-    if case < 8 {
-        return case == 5;
-    }
-    case < 12
-}
-
-// A statement on qubits. It has no body, and is lent the marks, which it may change.
-pub fn operation(
-    tree: &[u8],
-    index: &[u64],
-    scratch: &[u8],
-    out: &mut [u8],
-    keys: usize,
-    left: usize,
-    marks: &mut [u16; 256],
-    at: usize,
-    sink: Sink,
-) -> After
-    requires { ⌜ Walkable (now tree) (now index) keys × Ready (now tree) (now scratch) (stateOf at sink (now marks)) × IsOk (stmt (textsOf (now tree)) left (now tree) at) × (left ≤ 8) × (isOperation (getD (now tree) at 0) ≡ true) ⌝ }
-    requires { ⌜ StmtKeyed (keysIn (now index) keys) (scopesOf (now scratch) (9 - left)) (stmt (textsOf (now tree)) left (now tree) at) ⌝ }
-    ensures { λ r. ⌜ StmtWalked (now (tree .entry)) (now (index .entry)) keys left (stateOf at sink (now (marks .entry))) (now (scratch .entry)) (now (out .entry)) (stateOf (r .next) (r .sink) (now (marks .exit))) (now (scratch .entry)) (now (out .exit)) ⌝ }
-{
-    match tree[at] {
-        5 => gate_call(tree, index, scratch, out, keys, left, marks, at, sink),
-        8 => measure(tree, index, scratch, out, keys, left, marks, at, sink),
-        9 => reset(tree, index, scratch, out, keys, left, marks, at, sink),
-        10 => barrier(tree, index, scratch, out, keys, left, marks, at, sink),
-        _ => delay(tree, index, scratch, out, keys, left, marks, at, sink),
     }
 }

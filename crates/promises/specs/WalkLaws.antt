@@ -10,11 +10,11 @@ use Rattle.tree.specs.Decode.{textsOf}
 use Rattle.sema.specs.Symbols.{Symbols, GateSig, FunctionSig, Table}
 use Rattle.sema.specs.Marks.{Marks, Key, keep, mark, apply}
 use Rattle.sema.specs.Stmts.{SemaContext, analyzeStmt}
-use Rattle.context.specs.declared.State.{State}
+use Rattle.context.specs.declared.Sink.{Sink}
 use Rattle.context.specs.View.{Placed, keysIn, contextOf}
 use Rattle.accepted.specs.Parts.{next-is, given-is}
 use Rattle.promises.specs.Emitted.{Emitted}
-use Rattle.promises.specs.Walks.{Ready, Walk, Walked, walkStmt, StmtWalked}
+use Rattle.promises.specs.Walks.{State, stateOf, Ready, Passable, Walk, Walked, walkStmt, StmtWalked}
 
 -- a statement that does nothing to any mark leaves the marks
 pub marks-kept : (sp : Span) (m : Marks) → apply (λ (k : Key). keep) sp m ≡ m
@@ -47,3 +47,7 @@ module _ (tree index : List ℕ) (keys left : ℕ) (st : State) {S : Stmt} {end 
   same-walked h a g m p =
       walked-as (sym walk-is) (sym (next-is e))
       (record { at = a; goes = g; emitted = m; below = λ d l. refl; same-length = refl; same-rest = refl; few = h .few; placed = p })
+
+-- marks that are placed make the state of a statement that leaves them ready
+pub passed-ready : {tree index s : List ℕ} {at : ℕ} {sink : Sink} {marks : List ℕ} → Passable tree index s sink → Placed tree marks → Ready tree s (stateOf at sink marks)
+passed-ready p placed = record { room = p .room; few = p .few; placed = placed; fits = p .fits }

@@ -15,15 +15,20 @@ use Rattle.sema.specs.Marks.{Key}
 use Rattle.sema.specs.Keys.{hasKey}
 use Rattle.sema.specs.KeyCount.{SetsStmt, Sets}
 use Rattle.sema.specs.Stmts.{SemaContext, analyzeStmt, analyzeStmts}
+use Rattle.context.specs.declared.After.{After}
 use Rattle.context.specs.declared.Sink.{Sink}
-use Rattle.context.specs.declared.State.{State}
 use Rattle.context.specs.Sink.{SinkFits}
 use Rattle.context.specs.View.{TextsAt, Placed, keysIn, scopesOf, functionsOf, contextOf}
 use Rattle.tables.specs.Tables.{tablesEnd, FewParams}
 use Rattle.sheet.specs.Sheet.{Indexed, Distinct}
 use Rattle.promises.specs.Emitted.{Emitted}
 
--- a state from its parts
+-- a walk on its way: the place in the tree, the listing, the marks
+pub record State : Type 0 where
+  pub at : ℕ
+  pub sink : Sink
+  pub marks : List ℕ
+
 abbrev pub stateOf : ℕ → Sink → List ℕ → State
 stateOf at sink marks = record { at = at; sink = sink; marks = marks }
 
@@ -72,6 +77,14 @@ pub record Walked (tree : List ℕ) (t : List Text) (ks : List Key) (depth : ℕ
   pub few : FewParams (functionsOf s′)
   pub placed : Placed tree (r .marks)
 
+-- what a statement asks that leaves the marks, whatever they are
+pub record Passable (tree index scratch : List ℕ) (sink : Sink) : Type 0 where
+  pub small : length tree ≤ fileLimit
+  pub texts : TextsAt tree index
+  pub room : 65536 ≤ length scratch
+  pub few : FewParams (functionsOf scratch)
+  pub fits : SinkFits sink
+
 -- So of one statement, and of a body, whose statements have so many levels left.
 abbrev pub StmtWalked : List ℕ → List ℕ → ℕ → ℕ → State → List ℕ → List ℕ → State → List ℕ → List ℕ → Type 0
 StmtWalked tree index keys left st s o r s′ o′ =
@@ -82,3 +95,8 @@ abbrev pub BodyWalked : List ℕ → List ℕ → ℕ → ℕ → State → List
 BodyWalked tree index keys left st s o r s′ o′ =
     Walked tree (textsOf tree) (keysIn index keys) (9 - left) (walkBody (textsOf tree) (body (stmt (textsOf tree) left) tree (st .at)))
     (nextOf (body (stmt (textsOf tree) left) tree (st .at))) st s o r s′ o′
+
+-- So of one statement that leaves the marks, whatever they and the keys are.
+abbrev pub StmtPassed : List ℕ → List ℕ → ℕ → ℕ → Sink → List ℕ → List ℕ → After → List ℕ → List ℕ → Type 0
+StmtPassed tree index left at sink s o r s′ o′ =
+    (keys : ℕ) (marks : List ℕ) → Placed tree marks → StmtWalked tree index keys left (stateOf at sink marks) s o (stateOf (r .next) (r .sink) marks) s′ o′

@@ -4,7 +4,7 @@ use Prim.Native.Nat.{ℕ, zero, suc, _+_, _*_, _%_, _^_}
 use mathlib.Core.List.{List, [], _∷_, map}
 use mathlib.Core.Bool.{Bool, true, false, _||_}
 use lib.Dec.{eqb, leb}
-use lib.ListN.{length, getD, take, drop}
+use lib.ListN.{length, getD, take}
 use Rattle.ast.specs.Tree.{Text}
 use Rattle.tree.specs.Limits.{textsLimit}
 use Rattle.tree.specs.Ans.{Reader, _>>=_, _>>_, done, here, check}

@@ -12,7 +12,7 @@ use Rattle.tree.specs.AnsLaws.{never-ok, came}
 use Rattle.span.specs.declared.Span.{Span}
 use Rattle.ast.specs.Tree.{Text, TextNumber}
 use Rattle.ast.specs.declared.ClassicalType.{ClassicalType}
-use Rattle.tree.specs.Ans.{Ans, ok, refused, bind, _>>=_, _>>_, done, here, refuse, check}
+use Rattle.tree.specs.Ans.{ok, bind, _>>=_, _>>_, done, here, refuse, check}
 use Rattle.tree.specs.Read.{within, byte, bytes, number, caseByte, oneOf, repeat}
 use Rattle.tree.specs.Texts.{isName}
 use Rattle.tree.specs.Exprs.{textNumber}

@@ -2,12 +2,11 @@
 use Prim.Native.Nat.{ℕ, suc, _<_, _+_, _^_}
 use mathlib.Core.Path.{_≡_, refl, sym, _∙_}
 use mathlib.Core.List.{List, [], _∷_, _++_, append-nil, map, flatten}
-use mathlib.Core.Bool.{Bool, true, false, not, _||_, and-eq-true-iff, false≢true}
+use mathlib.Core.Bool.{Bool, true, false, not, _||_, and-eq-true-iff}
 use native.Mathlib.Omega.{arith}
 use lib.ListN.{length, getD, length-append, List·getD-append}
 use lib.Seq.{append-snoc, getD-append-seam}
-use lib.Dec.{eqb}
-use borrow.Author.Tests.{le-leb, eqb-true}
+use borrow.Author.Tests.{le-leb}
 use Rattle.text.proofs.Same.{same-eq}
 use Rattle.text.specs.Text.{same}
 use Rattle.ast.specs.Tree.{Text}

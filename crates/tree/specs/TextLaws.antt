@@ -1,13 +1,12 @@
 -- The texts of an accepted file hold bytes 33 to 126 alone.
 use Prim.Native.Nat.{ℕ, zero, suc, _+_}
-use mathlib.Core.Path.{_≡_, refl, ap}
+use mathlib.Core.Path.{_≡_, ap}
 use mathlib.Core.List.{List, [], _∷_, _++_}
-use mathlib.Core.Bool.{Bool, true, false}
-use native.Mathlib.Omega.{arith}
+use mathlib.Core.Bool.{true}
 use lib.ListN.{length}
-use Rattle.tree.specs.AnsLaws.{Came, came, passed}
+use Rattle.tree.specs.AnsLaws.{came, passed}
 use Rattle.ast.specs.Tree.{Text, Program}
-use Rattle.tree.specs.Ans.{Ans, ok, refused, bind, _>>=_, _>>_, done, here, refuse, check}
+use Rattle.tree.specs.Ans.{ok, _>>=_, _>>_, done, here}
 use Rattle.tree.specs.Texts.{between, allowed, text, moreTexts, texts}
 use Rattle.tree.specs.Decode.{size, file, decode}
 

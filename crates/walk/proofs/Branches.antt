@@ -16,14 +16,13 @@ use Rattle.sema.specs.Marks.{Key}
 use Rattle.sema.specs.KeyCount.{SetsElse}
 use Rattle.sema.specs.Exprs.{requireType}
 use Rattle.sema.specs.Stmts.{SemaContext, enter, analyzeStmt, analyzeStmts, analyzeElse}
-use Rattle.context.specs.declared.State.{State}
 use Rattle.context.specs.View.{spanAt, keysIn, scopesOf, functionsOf, contextOf}
 use Rattle.accepted.specs.Cases.{blank}
 use Rattle.accepted.specs.Parts.{valueOr, value-is, given-ok}
 use Rattle.accepted.specs.Bodies.{stmt-left}
 use Rattle.accepted.specs.Stmts.{branch-condition, branch-body, branch-else, branch-is, branch-inside}
 use Rattle.promises.specs.Emitted.{emitted-then, emitted-as}
-use Rattle.promises.specs.Walks.{Ready, StmtKeyed, BodyKeyed, Walked, StmtWalked, BodyWalked}
+use Rattle.promises.specs.Walks.{State, Ready, StmtKeyed, BodyKeyed, Walked, StmtWalked, BodyWalked}
 use Rattle.promises.specs.WalkLaws.{stmt-walked}
 use Rattle.bodies.specs.Opened.{ConditionOpened}
 use Rattle.walk.specs.Bodies.{ElseKeyed, walkElse}

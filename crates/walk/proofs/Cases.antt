@@ -18,7 +18,6 @@ use Rattle.sema.specs.Keys.{hasKey}
 use Rattle.sema.specs.KeyCount.{Sets}
 use Rattle.sema.specs.Exprs.{requireType}
 use Rattle.sema.specs.Stmts.{SemaContext, analyzeStmt, analyzeStmts, analyzeElse, gateSays, rangeSays, stepSays}
-use Rattle.context.specs.declared.State.{State}
 use Rattle.context.specs.View.{Placed, spanAt, typeOf, numberAt, keysIn, scopesOf, functionsOf, marksOf, contextOf}
 use Rattle.accepted.specs.Cases.{blank, blankRange}
 use Rattle.accepted.specs.Parts.{valueOr, value-is, given-is, given-ok, next-is}
@@ -26,7 +25,7 @@ use Rattle.accepted.specs.Bodies.{stmt-left, else-none, else-body, else-some}
 use Rattle.accepted.specs.Stmts.{gateDef-body, gateDef-is, gateDef-inside, forLoop-range, forLoop-body, forLoop-is, forLoop-inside, whileLoop-condition, whileLoop-body, whileLoop-is, whileLoop-inside}
 use Rattle.promises.specs.Emitted.{emitted-none, emitted-as}
 use Rattle.promises.specs.Typings.{plainContext}
-use Rattle.promises.specs.Walks.{Ready, StmtKeyed, BodyKeyed, Walked, StmtWalked, BodyWalked}
+use Rattle.promises.specs.Walks.{State, Ready, StmtKeyed, BodyKeyed, Walked, StmtWalked, BodyWalked}
 use Rattle.promises.specs.WalkLaws.{context-is, stmt-walked}
 use Rattle.bodies.specs.Opened.{Opened, gateBody, gateSpan, gateParams, gateQparams, forBody, forSpan, GateOpened, ConditionOpened, ForOpened}
 use Rattle.walk.specs.Bodies.{ElseKeyed, walkElse, ElseOpened}

@@ -11,13 +11,12 @@ use Rattle.sema.specs.Messages.{Diagnostic}
 use Rattle.sema.specs.Symbols.{Scope, Table, GateSig}
 use Rattle.sema.specs.Marks.{Key, Marks}
 use Rattle.sema.specs.Stmts.{SemaContext, leave, analyzeStmts, analyzeElse}
-use Rattle.context.specs.declared.State.{State}
 use Rattle.context.specs.View.{Placed, keysIn, scopesOf, functionsOf, marksOf, contextOf}
 use Rattle.tables.specs.Laws.{few-after}
 use Rattle.accepted.specs.Parts.{valueOr, given-ok}
 use Rattle.scopes.specs.Laws.{entered-below}
 use Rattle.promises.specs.Emitted.{emitted-then, emitted-as}
-use Rattle.promises.specs.Walks.{Ready, Walk, Walked, walkBody, BodyWalked}
+use Rattle.promises.specs.Walks.{State, Ready, Walk, Walked, walkBody, BodyWalked}
 use Rattle.promises.specs.WalkLaws.{context-is, walked-as}
 use Rattle.bodies.specs.Opened.{Opened}
 

@@ -1,3 +1,4 @@
+pub mod Plain
 pub mod Keyed
 pub mod Loop
 pub mod Enclosed

@@ -1,8 +1,9 @@
--- What an `else` asks, and what the analysis makes of it.
+-- Statements with a body by their case byte; what an `else` asks, and what the analysis makes of it.
 use Prim.Native.Nat.{ℕ, _+_, _-_}
 use mathlib.Core.Path.{_≡_}
-use mathlib.Core.Bool.{true}
+use mathlib.Core.Bool.{Bool, true, not, _&&_}
 use mathlib.Core.List.{List, []}
+use lib.Dec.{eqb, ltb}
 use Rattle.ast.specs.Tree.{Text, Else}
 use Rattle.tree.specs.Ans.{Ans, ok, given}
 use Rattle.sema.specs.Symbols.{Symbols, empty}
@@ -10,10 +11,13 @@ use Rattle.sema.specs.Marks.{Key}
 use Rattle.sema.specs.Keys.{hasKey}
 use Rattle.sema.specs.KeyCount.{SetsElse}
 use Rattle.sema.specs.Stmts.{SemaContext, analyzeElse}
-use Rattle.context.specs.declared.State.{State}
 use Rattle.context.specs.View.{gatesOf}
-use Rattle.promises.specs.Walks.{Walk}
+use Rattle.promises.specs.Walks.{State, Walk}
 use Rattle.bodies.specs.Opened.{Opened}
+
+-- no gate definition, `if` or loop
+unfoldable pub isPlain : ℕ → Bool
+isPlain case = not (eqb case 6) && ltb case 12
 
 -- every key that an `else` sets is in the table
 pub record ElseKeyed (ks : List Key) (ss : Symbols) (x : Ans Else) : Type 0 where

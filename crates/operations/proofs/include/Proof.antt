@@ -2,11 +2,13 @@
 use Rattle.accepted.specs.Stmts.{include-inside}
 use Rattle.operations.proofs.Simple.{include-walked}
 use native.Mathlib.Omega.{arith}
+use Rattle.promises.specs.Walks.{stateOf}
+use Rattle.promises.specs.WalkLaws.{passed-ready}
 use Rattle.operations.proofs.include.Statement.{statement}
 use Rattle.operations.proofs.include.Tie as tie
 
 pub include-spec : {M : Type 1} → statement M
 include-spec =
     tie.close (tie.spec
-    (λ c. let s = c .before .before in let i = include-inside _ _ _ _ (s .pre .2) (s .pre .4) in omega arith)  -- add-t11
-    (λ c. let s = c .before .before in include-walked _ _ _ _ (s .args .st) (s .pre .2) (s .pre .1) (s .pre .4)))  -- returns
+    (λ c. let i = include-inside _ _ _ _ (c .pre .1) (c .pre .3) in omega arith)  -- add-t11
+    (λ c. λ keys marks placed. include-walked _ _ keys _ (stateOf _ _ marks) (c .pre .1) (passed-ready (c .pre .0) placed) (c .pre .3)))  -- returns
