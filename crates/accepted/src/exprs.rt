@@ -12,7 +12,7 @@ pub fn skip_expr(s: &[u8], at: usize, left: usize) -> usize
     requires { ⌜ IsOk (expr (textsOf (now s)) left (now s) at) ⌝ }
     ensures { λ r. ⌜ r ≡ nextOf (expr (textsOf (now (s .entry))) left (now (s .entry)) at) ⌝ }
 {
-    let s = &s[..];
+    let s = &s[..]; // pointer and length are loaded one by one, and not waited for as a pair
     match s[at] {
         0 => at + 17,
         1 => at + 11,

@@ -23,7 +23,7 @@ pub fn skip_stmt(s: &[u8], at: usize, left: usize) -> usize
     requires { ⌜ IsOk (stmt (textsOf (now s)) left (now s) at) ⌝ }
     ensures { λ r. ⌜ r ≡ nextOf (stmt (textsOf (now (s .entry))) left (now (s .entry)) at) ⌝ }
 {
-    let s = &s[..];
+    let s = &s[..]; // as in skip_expr: loaded one by one
     match s[at] {
         0 => at + 11,
         1 => skip_number(s, at + 3) + 8,

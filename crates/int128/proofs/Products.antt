@@ -35,30 +35,25 @@ expand u1 u0 v1 v0 k =
     let g : u0 * (v1 * k) ≡ u0 * v1 * k = sym (mul-assoc u0 v1 k) in
     rw (add-mul (u1 * k) u0 (v1 * k + v0), mul-add (u1 * k) (v1 * k) v0, mul-add u0 (v1 * k) v0, e, f, g) (omega arith)
 
+-- the halves of a word
+high-half : (x : ℕ) → x < 18446744073709551616 → x / 4294967296 < 4294967296
+high-half x h = omega arith
+
+low-half : (x : ℕ) → x % 4294967296 < 4294967296
+low-half x = omega arith
+
 module _ (u v : ℕ) (hu : u < 18446744073709551616) (hv : v < 18446744073709551616) where
-  u1 : u / 4294967296 < 4294967296
-  u1 = omega arith
-
-  u0 : u % 4294967296 < 4294967296
-  u0 = omega arith
-
-  v1 : v / 4294967296 < 4294967296
-  v1 = omega arith
-
-  v0 : v % 4294967296 < 4294967296
-  v0 = omega arith
-
   p11 : u / 4294967296 * (v / 4294967296) ≤ 18446744065119617025
-  p11 = small (u / 4294967296) (v / 4294967296) u1 v1
+  p11 = small (u / 4294967296) (v / 4294967296) (high-half u hu) (high-half v hv)
 
   p10 : u / 4294967296 * (v % 4294967296) ≤ 18446744065119617025
-  p10 = small (u / 4294967296) (v % 4294967296) u1 v0
+  p10 = small (u / 4294967296) (v % 4294967296) (high-half u hu) (low-half v)
 
   p01 : u % 4294967296 * (v / 4294967296) ≤ 18446744065119617025
-  p01 = small (u % 4294967296) (v / 4294967296) u0 v1
+  p01 = small (u % 4294967296) (v / 4294967296) (low-half u) (high-half v hv)
 
   p00 : u % 4294967296 * (v % 4294967296) ≤ 18446744065119617025
-  p00 = small (u % 4294967296) (v % 4294967296) u0 v0
+  p00 = small (u % 4294967296) (v % 4294967296) (low-half u) (low-half v)
 
   pub fits-w0 : u % 4294967296 * (v % 4294967296) < 18446744073709551616
   fits-w0 = omega (arith, p00)

@@ -202,7 +202,7 @@ pub fn use_operands(
     requires { ⌜ TextsAt (now tree) (now index) × (65536 ≤ length (now scratch)) × (depth ≤ 9) × Indexed (now index) keys × Distinct (keysIn (now index) keys) × Placed (now tree) (now marks) × IsOk (vec (operand (textsOf (now tree))) (now tree) at) × SinkFits sink ⌝ }
     ensures { λ r. ⌜ Emitted (textsOf (now (tree .entry))) (given [] (useOperands (scopesOf (now (scratch .entry)) depth) (marksOf (now (tree .entry)) (keysIn (now (index .entry)) keys) (now (marks .entry))) span) (vec (operand (textsOf (now (tree .entry)))) (now (tree .entry)) at)) sink (now (out .entry)) r (now (out .exit)) ⌝ }
 {
-    let tree = &tree[..];
+    let tree = &tree[..]; // pointer and length are loaded one by one, and not waited for as a pair
     let mut n = wide(tree[at]);
     let mut k = at + 1;
     let mut s = sink;
