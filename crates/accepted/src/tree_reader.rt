@@ -44,7 +44,7 @@ pub fn span<'a>(r: TreeReader<'a>) -> Span
 }
 
 // The reader so many bytes further on.
-pub(crate) fn skip<'a>(r: TreeReader<'a>, n: usize) -> TreeReader<'a>
+pub fn skip<'a>(r: TreeReader<'a>, n: usize) -> TreeReader<'a>
     requires { ⌜ r .at + n ≤ length (now (r .tree)) ⌝ }
     ensures { λ q. ⌜ (q .tree ≡ r .entry .tree) × (q .at ≡ r .entry .at + n) ⌝ }
 {

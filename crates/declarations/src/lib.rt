@@ -1,4 +1,4 @@
-// Declarations, assignments and function definitions over accepted bytes: cases of analyze_stmt.
+// Declarations, assignments and function definitions over accepted bytes: cases of the Rust's analyze_stmt.
 mod parts;
 mod reports;
 

@@ -46,6 +46,14 @@ pub record Ready (tree scratch : List ℕ) (st : State) : Type 0 where
   pub placed : Placed tree (st .marks)
   pub fits : SinkFits (st .sink)
 
+-- what a statement asks that leaves the marks, whatever they are
+pub record Passable (tree index scratch : List ℕ) (sink : Sink) : Type 0 where
+  pub small : length tree ≤ fileLimit
+  pub texts : TextsAt tree index
+  pub room : 65536 ≤ length scratch
+  pub few : FewParams (functionsOf scratch)
+  pub fits : SinkFits sink
+
 -- every key that the statement's measure statements set is in the table; so of the statements of a body
 pub record StmtKeyed (ks : List Key) (ss : Symbols) (x : Ans Stmt) : Type 0 where
   pub each : (s : Stmt) (n : ℕ) → x ≡ ok s n → (k : Key) → SetsStmt s ss k → hasKey ks k ≡ true
@@ -76,14 +84,6 @@ pub record Walked (tree : List ℕ) (t : List Text) (ks : List Key) (depth : ℕ
   pub same-rest : drop tablesEnd s′ ≡ drop tablesEnd s
   pub few : FewParams (functionsOf s′)
   pub placed : Placed tree (r .marks)
-
--- what a statement asks that leaves the marks, whatever they are
-pub record Passable (tree index scratch : List ℕ) (sink : Sink) : Type 0 where
-  pub small : length tree ≤ fileLimit
-  pub texts : TextsAt tree index
-  pub room : 65536 ≤ length scratch
-  pub few : FewParams (functionsOf scratch)
-  pub fits : SinkFits sink
 
 -- So of one statement, and of a body, whose statements have so many levels left.
 abbrev pub StmtWalked : List ℕ → List ℕ → ℕ → ℕ → State → List ℕ → List ℕ → State → List ℕ → List ℕ → Type 0

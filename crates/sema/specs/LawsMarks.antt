@@ -1,4 +1,5 @@
--- Laws of marks at a key: which keys a measure sets and a reset clears, and marks that are applied and united. Assumes nothing.
+-- Laws of marks at a key: which keys a measure sets and a reset clears, and marks that are applied and united. Those that no proof
+-- uses hold the definitions: wrong ones are refused by them (must-fail). Assumes nothing.
 use Prim.Native.Nat.{ℕ, _≤_, _<_}
 use mathlib.Core.Path.{_≡_, refl, ap, subst}
 use mathlib.Core.Logic.{_↔_, _⊎_, inl, inr}

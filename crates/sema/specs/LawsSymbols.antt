@@ -1,4 +1,5 @@
--- Laws of tables and scopes: what is found after an insertion or a declaration. Assumes nothing.
+-- Laws of tables and scopes: what is found after an insertion or a declaration. Those that no proof uses hold the definitions: wrong
+-- ones are refused by them (must-fail). Assumes nothing.
 use Prim.Native.Nat.{ℕ}
 use mathlib.Core.Path.{_≡_, refl}
 use mathlib.Core.Option.{Option, none, some}

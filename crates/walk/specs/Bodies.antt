@@ -1,4 +1,4 @@
--- Statements with a body by their case byte; what an `else` asks, and what the analysis makes of it.
+-- Statements with and without a body, by their case byte; what an `else` asks, and what the analysis makes of it.
 use Prim.Native.Nat.{ℕ, _+_, _-_}
 use mathlib.Core.Path.{_≡_}
 use mathlib.Core.Bool.{Bool, true, not, _&&_}

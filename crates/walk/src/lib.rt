@@ -1,5 +1,5 @@
-// The analysis of statements over accepted bytes: analyze_stmt, analyze_stmts. The place and the sink are handed on by value; the marks
-// are lent, and saved where a body is entered that may be passed by.
+// The analysis of statements over accepted bytes: the Rust's analyze_stmt (plain_stmt, body_stmt) and analyze_stmts. The place and the
+// sink are handed on by value; the marks are lent, and saved where a body is entered that may be passed by.
 
 use accepted::numbers::u16_at;
 use context::After;
