@@ -4,7 +4,6 @@ use mathlib.Core.Path.{_≡_, refl, ap, _∙_}
 use mathlib.Core.List.{List, [], _∷_}
 use native.Mathlib.Omega.{arith}
 use lib.ListN.{length, getD}
-use Rattle.promises.specs.Walks.{State}
 use Rattle.span.specs.declared.Span.{Span}
 use Rattle.ast.specs.Tree.{Text, TextNumber}
 use Rattle.tree.specs.Ans.{IsOk, nextOf}
@@ -16,6 +15,7 @@ use Rattle.sema.specs.Symbols.{gateScope, Symbols}
 use Rattle.context.specs.declared.Sink.{Sink}
 use Rattle.context.specs.declared.FoundGate.{FoundGate}
 use Rattle.context.specs.declared.GateSig.{GateSig}
+use Rattle.context.specs.declared.State.{State}
 use Rattle.context.specs.Sink.{SinkFits}
 use Rattle.context.specs.Values.{foundGateOf}
 use Rattle.context.specs.View.{numberAt, spanAt, scopesOf, gatesOf, functionsOf}

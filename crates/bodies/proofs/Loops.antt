@@ -5,7 +5,6 @@ use mathlib.Core.Bool.{true, false}
 use mathlib.Core.List.{List, [], _∷_, _++_}
 use mathlib.Core.Option.{none}
 use lib.ListN.{length, getD}
-use Rattle.promises.specs.Walks.{State}
 use Rattle.span.specs.declared.Span.{Span}
 use Rattle.ast.specs.Tree.{Text, Expr}
 use Rattle.ast.specs.declared.ClassicalType.{ClassicalType}
@@ -20,6 +19,7 @@ use Rattle.sema.specs.Exprs.{requireType}
 use Rattle.sema.specs.Stmts.{stepSays, rangeSays}
 use Rattle.context.specs.declared.After.{After}
 use Rattle.context.specs.declared.Sink.{Sink}
+use Rattle.context.specs.declared.State.{State}
 use Rattle.context.specs.Sink.{SinkFits}
 use Rattle.context.specs.View.{numberAt, spanAt, typeOf, scopesOf, gatesOf, functionsOf}
 use Rattle.lines.specs.declared.Message.{Message}

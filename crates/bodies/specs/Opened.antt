@@ -4,7 +4,6 @@ use mathlib.Core.Path.{_≡_}
 use mathlib.Core.Bool.{not}
 use mathlib.Core.List.{List, [], _∷_}
 use lib.ListN.{length, getD}
-use Rattle.promises.specs.Walks.{State}
 use Rattle.span.specs.declared.Span.{Span}
 use Rattle.ast.specs.Tree.{Text, TextNumber}
 use Rattle.ast.specs.declared.ClassicalType.{ClassicalType}
@@ -19,6 +18,7 @@ use Rattle.sema.specs.Symbols.{Scope, Table, GateSig, empty, insert, gateScope,
 use Rattle.sema.specs.Operands.{isSome, unless}
 use Rattle.sema.specs.Exprs.{requireType}
 use Rattle.sema.specs.Stmts.{rangeSays}
+use Rattle.context.specs.declared.State.{State}
 use Rattle.context.specs.View.{numberAt, spanAt, typeOf, scopesOf, gatesOf, functionsOf}
 use Rattle.tables.specs.Tables.{Becomes}
 use Rattle.accepted.specs.Parts.{valueOr}

@@ -17,12 +17,13 @@ use Rattle.sema.specs.Keys.{hasKey, keys}
 use Rattle.sema.specs.KeyCount.{Sets, keys-all}
 use Rattle.sema.specs.LawsKeys.{has-key-iff}
 use Rattle.sema.specs.Stmts.{new}
+use Rattle.context.specs.declared.State.{State}
 use Rattle.context.specs.View.{Placed, scopesOf, marksOf, contextOf}
 use Rattle.tables.specs.Tables.{Begun}
 use Rattle.tables.specs.Laws.{few-empty}
 use Rattle.accepted.specs.Parts.{valueOr, value-is, given-is}
 use Rattle.accepted.specs.Files.{file-is, file-body}
-use Rattle.promises.specs.Walks.{State, Ready, BodyKeyed}
+use Rattle.promises.specs.Walks.{Ready, BodyKeyed}
 use Rattle.claims.specs.Claim.{programOf}
 
 module _ (tree : List ℕ) (h : IsOk (decode tree)) (at : ℕ) (e : at ≡ nextOf (texts tree 0)) where

@@ -13,13 +13,14 @@ use Rattle.tree.specs.Decode.{textsOf, decode}
 use Rattle.sema.specs.Marks.{Key, noMarks}
 use Rattle.sema.specs.Stmts.{analyze, analyzeStmts, new}
 use Rattle.context.specs.declared.Sink.{Sink}
+use Rattle.context.specs.declared.State.{State}
 use Rattle.context.specs.Sink.{Written, writtenOf, emit}
 use Rattle.context.specs.View.{keysIn, marksOf, contextOf}
 use Rattle.lines.specs.EmitLaws.{allBytes, emit-from, emit-over, emit-few}
 use Rattle.tables.specs.Tables.{tablesEnd, Begun}
 use Rattle.accepted.specs.Parts.{valueOr, given-ok}
 use Rattle.promises.specs.Emitted.{emitted-as}
-use Rattle.promises.specs.Walks.{State, BodyWalked, walkBody}
+use Rattle.promises.specs.Walks.{BodyWalked, walkBody}
 use Rattle.claims.specs.Claim.{programOf}
 use Rattle.verdict.specs.Verdict.{Learnt}
 use Rattle.checker.specs.Check.{Ran, Staged, sinkAt}

@@ -1,5 +1,6 @@
 // The checking list of a tree.
 use context::Sink;
+use context::State;
 use keys::Keys;
 use reader::Validated;
 use verdict::Answer;
@@ -42,8 +43,16 @@ fn run(
         errors: 0,
         warnings: 0,
     };
-    let mut marks = sheet::blank();
-    let r = walk::analyze_stmts(tree, index, scratch, out, keys, 8, &mut marks, at, sink);
+    let marks = sheet::blank();
+    let r = walk::analyze_stmts(
+        tree,
+        index,
+        scratch,
+        out,
+        keys,
+        8,
+        State { at, sink, marks },
+    );
     r.sink
 }
 

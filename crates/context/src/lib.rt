@@ -102,3 +102,10 @@ pub struct After {
     pub next: usize,
     pub sink: Sink,
 }
+
+// The walk on its way: the place in the tree, the listing, the marks.
+pub struct State {
+    pub at: usize,
+    pub sink: Sink,
+    pub marks: [u16; 256],
+}

@@ -31,6 +31,7 @@ use Rattle.accepted.specs.Stmts.{classicalDecl-is}
 use Rattle.context.specs.declared.Sink.{Sink}
 use Rattle.context.specs.declared.Typing.{Typing}
 use Rattle.context.specs.declared.Symbol.{Symbol as SymbolValue}
+use Rattle.context.specs.declared.State.{State}
 use Rattle.context.specs.Sink.{SinkFits}
 use Rattle.context.specs.Values.{numberOf, kindOf, typedOf}
 use Rattle.context.specs.View.{spanAt, typeOf, scopesOf, functionsOf, stmtSpan}
@@ -39,7 +40,7 @@ use Rattle.lines.specs.Values.{diagnosticOf, errorOf}
 use Rattle.tables.specs.Laws.{few-after}
 use Rattle.promises.specs.Emitted.{Emitted, emitted-then, emitted-as}
 use Rattle.promises.specs.Typings.{TypingOf}
-use Rattle.promises.specs.Walks.{State, Ready, StmtWalked}
+use Rattle.promises.specs.Walks.{Ready, StmtWalked}
 use Rattle.promises.specs.WalkLaws.{marks-kept, context-is}
 use Rattle.declarations.specs.Says.{qualifierCode, codeSays, classicalRest}
 use Rattle.declarations.specs.Checked.{Declared, initAt}

@@ -22,12 +22,13 @@ use Rattle.accepted.specs.Stmts.{qubitDecl-is, bitDecl-is}
 use Rattle.context.specs.declared.Sink.{Sink}
 use Rattle.context.specs.declared.Symbol.{Symbol as SymbolValue}
 use Rattle.context.specs.declared.FoundSymbol.{FoundSymbol}
+use Rattle.context.specs.declared.State.{State}
 use Rattle.context.specs.Values.{numberOf, kindOf, foundOf}
 use Rattle.context.specs.View.{keysIn, scopesOf, gatesOf, functionsOf, marksOf, contextOf, stmtSpan}
 use Rattle.tables.specs.Tables.{Becomes, FewParams}
 use Rattle.tables.specs.Laws.{few-after}
 use Rattle.promises.specs.Emitted.{Emitted, emitted-as}
-use Rattle.promises.specs.Walks.{State, Ready, StmtWalked}
+use Rattle.promises.specs.Walks.{Ready, StmtWalked}
 use Rattle.promises.specs.WalkLaws.{marks-kept, context-is, stmt-walked}
 use Rattle.declarations.specs.Says.{declaredSays}
 use Rattle.declarations.specs.Checked.{Declared}

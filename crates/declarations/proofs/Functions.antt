@@ -25,6 +25,7 @@ use Rattle.context.specs.declared.Sink.{Sink}
 use Rattle.context.specs.declared.Typing.{Typing}
 use Rattle.context.specs.declared.FunctionSig.{FunctionSig as FunctionValue}
 use Rattle.context.specs.declared.FoundFunction.{FoundFunction}
+use Rattle.context.specs.declared.State.{State}
 use Rattle.context.specs.Sink.{SinkFits}
 use Rattle.context.specs.Values.{typedOf}
 use Rattle.context.specs.View.{numberAt, spanAt, typeOf, scopesOf, gatesOf, functionsOf}
@@ -33,7 +34,7 @@ use Rattle.tables.specs.Laws.{scopes-below, scopes-fewer, few-defined, few-afte
 use Rattle.tables.specs.Params.{ParamsRead, params-read, function-read}
 use Rattle.promises.specs.Emitted.{Emitted, emitted-then, emitted-as}
 use Rattle.promises.specs.Typings.{TypingOf}
-use Rattle.promises.specs.Walks.{State, Ready, StmtWalked}
+use Rattle.promises.specs.Walks.{Ready, StmtWalked}
 use Rattle.declarations.specs.declared.parts.Function.{Function}
 use Rattle.declarations.specs.Says.{definedSays, bodySays}
 use Rattle.declarations.specs.Checked.{paramsAt, FunctionAt, Defined, BodyChecked}

@@ -26,13 +26,14 @@ use Rattle.context.specs.declared.Sink.{Sink}
 use Rattle.context.specs.declared.Typing.{Typing}
 use Rattle.context.specs.declared.Symbol.{Symbol as SymbolValue}
 use Rattle.context.specs.declared.FoundSymbol.{FoundSymbol}
+use Rattle.context.specs.declared.State.{State}
 use Rattle.context.specs.Values.{kindOf, typedOf, foundOf}
 use Rattle.context.specs.View.{numberAt, spanAt, scopesOf, functionsOf}
 use Rattle.lines.specs.declared.Message.{Message}
 use Rattle.lines.specs.Values.{diagnosticOf, errorOf}
 use Rattle.promises.specs.Emitted.{Emitted, emitted-then, emitted-as}
 use Rattle.promises.specs.Typings.{TypingOf}
-use Rattle.promises.specs.Walks.{State, Ready, StmtWalked}
+use Rattle.promises.specs.Walks.{Ready, StmtWalked}
 use Rattle.promises.specs.WalkLaws.{marks-kept, context-is, same-walked}
 use Rattle.declarations.specs.Says.{spanned, targetBy}
 use Rattle.declarations.specs.Spans.{expr-long, span-last}

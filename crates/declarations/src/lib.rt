@@ -67,7 +67,7 @@ fn declare(
 }
 
 // The declaration of a qubit or a bit.
-pub fn register(
+fn register(
     tree: &[u8],
     index: &[u64],
     scratch: &mut [u8],
@@ -86,6 +86,36 @@ pub fn register(
         next: d.end,
         sink: s,
     }
+}
+
+pub fn qubit_decl(
+    tree: &[u8],
+    index: &[u64],
+    scratch: &mut [u8],
+    out: &mut [u8],
+    left: usize,
+    at: usize,
+    sink: Sink,
+) -> After
+    requires { ⌜ Passable (now tree) (now index) (now scratch) sink × IsOk (stmt (textsOf (now tree)) left (now tree) at) × (left ≤ 8) × (getD (now tree) at 0 ≡ 1) ⌝ }
+    ensures { λ r. ⌜ StmtPassed (now (tree .entry)) (now (index .entry)) left at sink (now (scratch .entry)) (now (out .entry)) r (now (scratch .exit)) (now (out .exit)) ⌝ }
+{
+    register(tree, index, scratch, out, left, at, sink)
+}
+
+pub fn bit_decl(
+    tree: &[u8],
+    index: &[u64],
+    scratch: &mut [u8],
+    out: &mut [u8],
+    left: usize,
+    at: usize,
+    sink: Sink,
+) -> After
+    requires { ⌜ Passable (now tree) (now index) (now scratch) sink × IsOk (stmt (textsOf (now tree)) left (now tree) at) × (left ≤ 8) × (getD (now tree) at 0 ≡ 2) ⌝ }
+    ensures { λ r. ⌜ StmtPassed (now (tree .entry)) (now (index .entry)) left at sink (now (scratch .entry)) (now (out .entry)) r (now (scratch .exit)) (now (out .exit)) ⌝ }
+{
+    register(tree, index, scratch, out, left, at, sink)
 }
 
 // The initializer of x behind its byte, in the scopes after the declaration.

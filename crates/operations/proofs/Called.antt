@@ -21,12 +21,13 @@ use Rattle.sema.specs.Exprs.{checkModifiers}
 use Rattle.sema.specs.Stmts.{SemaContext, aritySays, standardSays, signatureSays, paramsSay, registerWidths, widthsSay, gateCallSays, analyzeStmt}
 use Rattle.context.specs.declared.Sink.{Sink}
 use Rattle.context.specs.declared.After.{After}
+use Rattle.context.specs.declared.State.{State}
 use Rattle.context.specs.View.{scopesOf, gatesOf, functionsOf, keysIn, marksOf, contextOf}
 use Rattle.accepted.specs.Parts.{valueOr, given-ok}
 use Rattle.accepted.specs.Stmts.{gateCall-name, gateCall-params, gateCall-args, gateCall-is, gateCall-inside}
 use Rattle.promises.specs.Emitted.{Emitted, emitted-as, emitted-then}
 use Rattle.promises.specs.Typings.{SaidOf, plainContext}
-use Rattle.promises.specs.Walks.{State, Ready, StmtWalked}
+use Rattle.promises.specs.Walks.{Ready, StmtWalked}
 use Rattle.promises.specs.WalkLaws.{same-walked}
 use Rattle.operations.specs.declared.calls.Call.{Call}
 use Rattle.operations.specs.Calls.{CallOf, arityBy, standardBy, signatureBy}

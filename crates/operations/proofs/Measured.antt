@@ -23,6 +23,7 @@ use Rattle.sema.specs.Stmts.{SemaContext, measureTarget, measureSays, analyzeSt
 use Rattle.context.specs.declared.GateOperand.{GateOperand as Operand}
 use Rattle.context.specs.declared.Sink.{Sink}
 use Rattle.context.specs.declared.After.{After}
+use Rattle.context.specs.declared.State.{State}
 use Rattle.context.specs.Sink.{SinkFits}
 use Rattle.context.specs.Values.{operandOf}
 use Rattle.context.specs.View.{numberAt, PlaceOk, Placed, scopesOf, keysIn, marksOf, markBy, measureSpan, spanAt, contextOf}
@@ -42,7 +43,7 @@ use Rattle.lines.specs.declared.Diagnostic.{Diagnostic as DiagnosticValue}
 use Rattle.lines.specs.Values.{warningOf, Reported}
 use Rattle.promises.specs.Emitted.{Emitted, emitted-none, emitted-as, emitted-then, unless-holds, unless-fails}
 use Rattle.promises.specs.Typings.{SaidOf}
-use Rattle.promises.specs.Walks.{State, Ready, StmtKeyed, StmtWalked}
+use Rattle.promises.specs.Walks.{Ready, StmtKeyed, StmtWalked}
 use Rattle.promises.specs.WalkLaws.{same-walked}
 use Rattle.operands.specs.Widths.{measureWidths, measure-target}
 use Rattle.operations.proofs.Simple.{said-ok, context-by}

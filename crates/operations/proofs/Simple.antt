@@ -21,12 +21,13 @@ use Rattle.context.specs.declared.After.{After}
 use Rattle.context.specs.View.{Placed, scopesOf, gatesOf, functionsOf, keysIn, marksOf, spanAt, contextOf}
 use Rattle.context.specs.Values.{operandOf}
 use Rattle.context.specs.declared.GateOperand.{GateOperand as Operand}
+use Rattle.context.specs.declared.State.{State}
 use Rattle.accepted.specs.Cases.{blank, blankOperand}
 use Rattle.accepted.specs.Parts.{valueOr, given-ok, next-is, value-is}
 use Rattle.accepted.specs.Stmts as of
 use Rattle.promises.specs.Emitted.{Emitted, emitted-none, emitted-as, emitted-then}
 use Rattle.promises.specs.Typings.{SaidOf}
-use Rattle.promises.specs.Walks.{State, Ready, StmtWalked}
+use Rattle.promises.specs.Walks.{Ready, StmtWalked}
 use Rattle.promises.specs.WalkLaws.{same-walked}
 
 -- what was said of a value that was read

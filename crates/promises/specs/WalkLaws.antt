@@ -11,10 +11,11 @@ use Rattle.sema.specs.Symbols.{Symbols, GateSig, FunctionSig, Table}
 use Rattle.sema.specs.Marks.{Marks, Key, keep, mark, apply}
 use Rattle.sema.specs.Stmts.{SemaContext, analyzeStmt}
 use Rattle.context.specs.declared.Sink.{Sink}
+use Rattle.context.specs.declared.State.{State}
 use Rattle.context.specs.View.{Placed, keysIn, contextOf}
 use Rattle.accepted.specs.Parts.{next-is, given-is}
 use Rattle.promises.specs.Emitted.{Emitted}
-use Rattle.promises.specs.Walks.{State, stateOf, Ready, Passable, Walk, Walked, walkStmt, StmtWalked}
+use Rattle.promises.specs.Walks.{stateOf, Ready, Passable, Walk, Walked, walkStmt, StmtWalked}
 
 -- a statement that does nothing to any mark leaves the marks
 pub marks-kept : (sp : Span) (m : Marks) → apply (λ (k : Key). keep) sp m ≡ m

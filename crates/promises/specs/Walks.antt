@@ -17,18 +17,14 @@ use Rattle.sema.specs.KeyCount.{SetsStmt, Sets}
 use Rattle.sema.specs.Stmts.{SemaContext, analyzeStmt, analyzeStmts}
 use Rattle.context.specs.declared.After.{After}
 use Rattle.context.specs.declared.Sink.{Sink}
+use Rattle.context.specs.declared.State.{State}
 use Rattle.context.specs.Sink.{SinkFits}
 use Rattle.context.specs.View.{TextsAt, Placed, keysIn, scopesOf, functionsOf, contextOf}
 use Rattle.tables.specs.Tables.{tablesEnd, FewParams}
 use Rattle.sheet.specs.Sheet.{Indexed, Distinct}
 use Rattle.promises.specs.Emitted.{Emitted}
 
--- a walk on its way: the place in the tree, the listing, the marks
-pub record State : Type 0 where
-  pub at : ℕ
-  pub sink : Sink
-  pub marks : List ℕ
-
+-- a state from its parts
 abbrev pub stateOf : ℕ → Sink → List ℕ → State
 stateOf at sink marks = record { at = at; sink = sink; marks = marks }
 

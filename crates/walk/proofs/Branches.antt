@@ -16,18 +16,19 @@ use Rattle.sema.specs.Marks.{Key}
 use Rattle.sema.specs.KeyCount.{SetsElse}
 use Rattle.sema.specs.Exprs.{requireType}
 use Rattle.sema.specs.Stmts.{SemaContext, enter, analyzeStmt, analyzeStmts, analyzeElse}
+use Rattle.context.specs.declared.State.{State}
 use Rattle.context.specs.View.{spanAt, keysIn, scopesOf, functionsOf, contextOf}
 use Rattle.accepted.specs.Cases.{blank}
 use Rattle.accepted.specs.Parts.{valueOr, value-is, given-ok}
 use Rattle.accepted.specs.Bodies.{stmt-left}
 use Rattle.accepted.specs.Stmts.{branch-condition, branch-body, branch-else, branch-is, branch-inside}
 use Rattle.promises.specs.Emitted.{emitted-then, emitted-as}
-use Rattle.promises.specs.Walks.{State, Ready, StmtKeyed, BodyKeyed, Walked, StmtWalked, BodyWalked}
+use Rattle.promises.specs.Walks.{Ready, StmtKeyed, BodyKeyed, Walked, StmtWalked, BodyWalked}
 use Rattle.promises.specs.WalkLaws.{stmt-walked}
 use Rattle.bodies.specs.Opened.{ConditionOpened}
 use Rattle.walk.specs.Bodies.{ElseKeyed, walkElse}
 use Rattle.walk.proofs.Enclosed.{opened-context, opened-below, ended-context, body-walked, else-same}
-use Rattle.walk.proofs.Cases.{inside-keyed}
+use Rattle.walk.proofs.Held.{inside-keyed}
 
 module _ (tree index : List ℕ) (keys left : ℕ) (st : State) (h : IsOk (stmt (textsOf tree) left tree (st .at))) (l : left ≤ 8) (b : getD tree (st .at) 0 ≡ 12) where
   abbrev t : List Text
@@ -74,7 +75,7 @@ module _ (tree index : List ℕ) (keys left : ℕ) (st : State) (h : IsOk (stmt 
 
     module _ (w : State) (s″ o″ : List ℕ) (v : BodyWalked tree index keys (left - 1) i s′ o′ w s″ o″) where
       walked-then : Walked tree t ks (suc (9 - left)) (analyzeStmts t thenRest) elseAt i s′ o′ w s″ o″
-      walked-then = body-walked tree index keys left left-some l _ i (p .at) if-body v
+      walked-then = body-walked tree index keys left left-some l _ i (p .at) if-body (λ x. x) (λ n. n) v
 
       -- the scopes of the `if` are as they were
       then-scopes : scopesOf s″ (9 - left) ≡ scopesOf s (9 - left)
@@ -107,7 +108,7 @@ module _ (tree index : List ℕ) (keys left : ℕ) (st : State) (h : IsOk (stmt 
           else-walk =
               rw (else-at, z, given-ok noElse (contextOf tree ks s″ (9 - left) (st .marks), []) (λ g. analyzeElse t g (contextOf tree ks s″ (9 - left) (st .marks)) (contextOf tree ks s″ (suc (9 - left)) (w .marks))) (elseBody (stmt t (left - 1)) tree elseAt) if-else)
               (else-same t elseRest (contextOf tree ks s″ (9 - left) (st .marks)) c (contextOf tree ks s″ (suc (9 - left)) (w .marks)) then-scopes refl
-              ∙ ap (analyzeElse t elseRest c) (ended-context tree ks p thenRest walked-then))
+              ∙ ap (analyzeElse t elseRest c) (ended-context tree ks p (analyzeStmts t thenRest) walked-then))
 
           pub if-walked : (r : State) → r .at ≡ f .at + 8 → r .sink ≡ f .sink → r .marks ≡ f .marks → StmtWalked tree index keys left st s o r s‴ o‴
           unfolding analyzeStmt

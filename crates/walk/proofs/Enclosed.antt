@@ -11,12 +11,13 @@ use Rattle.sema.specs.Messages.{Diagnostic}
 use Rattle.sema.specs.Symbols.{Scope, Table, GateSig}
 use Rattle.sema.specs.Marks.{Key, Marks}
 use Rattle.sema.specs.Stmts.{SemaContext, leave, analyzeStmts, analyzeElse}
+use Rattle.context.specs.declared.State.{State}
 use Rattle.context.specs.View.{Placed, keysIn, scopesOf, functionsOf, marksOf, contextOf}
 use Rattle.tables.specs.Laws.{few-after}
 use Rattle.accepted.specs.Parts.{valueOr, given-ok}
 use Rattle.scopes.specs.Laws.{entered-below}
 use Rattle.promises.specs.Emitted.{emitted-then, emitted-as}
-use Rattle.promises.specs.Walks.{State, Ready, Walk, Walked, walkBody, BodyWalked}
+use Rattle.promises.specs.Walks.{Ready, Walk, Walked, walkBody}
 use Rattle.promises.specs.WalkLaws.{context-is, walked-as}
 use Rattle.bodies.specs.Opened.{Opened}
 
@@ -38,19 +39,24 @@ module _ (tree : List ℕ) {t : List Text} (ks : List Key) {depth : ℕ} {scope 
   opened-ready r = record { room = omega (arith, p .becomes .same-length, r .room); few = few-after (p .becomes) (r .few); placed = rw (p .marks) (r .placed); fits = p .emitted .fits }
 
   -- and walked: the walk over the whole, whose marks in the end are those of r
-  module _ (B : Stmts) {end″ : ℕ} {w : State} {s″ o″ : List ℕ} (b : Walked tree t ks (suc depth) (analyzeStmts t B) end″ i s′ o′ w s″ o″) where
+  module _ (within : Walk) {end″ : ℕ} {w : State} {s″ o″ : List ℕ} (b : Walked tree t ks (suc depth) within end″ i s′ o′ w s″ o″) where
+    pub ended-context : contextOf tree ks s″ (suc depth) (w .marks) ≡ within inner .0
+    ended-context = b .goes ∙ ap (λ x. within x .0) opened-context
+
+    -- the marks of the body's end
+    pub ended-marks : marksOf tree ks (w .marks) ≡ within inner .0 .measured
+    ended-marks = ap (λ (x : SemaContext). x .measured) ended-context
+
     pub enclosed : (walk : Walk) (M : Marks) (end : ℕ) (r : State)
-        → walk (contextOf tree ks s depth (st .marks)) ≡ (leave (contextOf tree ks s depth (st .marks)) (analyzeStmts t B inner .0) M, ds ++ analyzeStmts t B inner .1)
+        → walk (contextOf tree ks s depth (st .marks)) ≡ (leave (contextOf tree ks s depth (st .marks)) (within inner .0) M, ds ++ within inner .1)
         → marksOf tree ks (r .marks) ≡ M → Placed tree (r .marks) → r .at ≡ end → r .sink ≡ w .sink
         → Walked tree t ks depth walk end st s o r s″ o″
     enclosed walk M end r e m q a k =
-        let c = analyzeStmts t B inner in
-        let g : contextOf tree ks s″ (suc depth) (w .marks) ≡ c .0 = b .goes ∙ ap (λ x. analyzeStmts t B x .0) opened-context in
-        let d = emitted-as (b .emitted) (ap (λ x. analyzeStmts t B x .1) opened-context) in
+        let d = emitted-as (b .emitted) (ap (λ x. within x .1) opened-context) in
         record {
           at = a;
           goes =
-              context-is (b .below depth (omega arith) ∙ opened-below depth (omega arith)) (ap (λ (x : SemaContext). x .gates) g) (ap (λ (x : SemaContext). x .functions) g) m
+              context-is (b .below depth (omega arith) ∙ opened-below depth (omega arith)) (ap (λ (x : SemaContext). x .gates) ended-context) (ap (λ (x : SemaContext). x .functions) ended-context) m
               ∙ sym (ap (λ x. x .0) e);
           emitted = rw k (emitted-as (emitted-then (p .emitted) d) (sym (ap (λ x. x .1) e)));
           below = λ x l. b .below x (omega arith) ∙ opened-below x (omega arith);
@@ -60,22 +66,16 @@ module _ (tree : List ℕ) {t : List Text} (ks : List Key) {depth : ℕ} {scope 
           placed = q;
         }
 
-    -- the marks of the body's end
-    pub ended-marks : marksOf tree ks (w .marks) ≡ analyzeStmts t B inner .0 .measured
-    ended-marks = ap (λ (x : SemaContext). x .measured) (b .goes ∙ ap (λ x. analyzeStmts t B x .0) opened-context)
-
-    pub ended-context : contextOf tree ks s″ (suc depth) (w .marks) ≡ analyzeStmts t B inner .0
-    ended-context = b .goes ∙ ap (λ x. analyzeStmts t B x .0) opened-context
-
--- a body that was walked, by the statements that were read and the depth of its statement
+-- a body that was walked, by the statements that were read and the depth of its statement; what is made of it, and of its end, follows
 module _ (tree index : List ℕ) (keys left : ℕ) (a : 0 < left) (l : left ≤ 8) (place : ℕ) (i : State) (e : i .at ≡ place) (h : IsOk (body (stmt (textsOf tree) (left - 1)) tree place)) where
-  pub body-walked : {s o : List ℕ} {r : State} {s′ o′ : List ℕ} → BodyWalked tree index keys (left - 1) i s o r s′ o′
-      → Walked tree (textsOf tree) (keysIn index keys) (suc (9 - left)) (analyzeStmts (textsOf tree) (valueOr noStmt (body (stmt (textsOf tree) (left - 1)) tree place))) (nextOf (body (stmt (textsOf tree) (left - 1)) tree place)) i s o r s′ o′
-  body-walked {s = s} {o = o} {r = r} {s′ = s′} {o′ = o′} w =
+  pub body-walked : (f : Walk → Walk) (g : ℕ → ℕ) {s o : List ℕ} {r : State} {s′ o′ : List ℕ}
+      → Walked tree (textsOf tree) (keysIn index keys) (9 - (left - 1)) (f (walkBody (textsOf tree) (body (stmt (textsOf tree) (left - 1)) tree (i .at)))) (g (nextOf (body (stmt (textsOf tree) (left - 1)) tree (i .at)))) i s o r s′ o′
+      → Walked tree (textsOf tree) (keysIn index keys) (suc (9 - left)) (f (analyzeStmts (textsOf tree) (valueOr noStmt (body (stmt (textsOf tree) (left - 1)) tree place)))) (g (nextOf (body (stmt (textsOf tree) (left - 1)) tree place))) i s o r s′ o′
+  body-walked f g {s = s} {o = o} {r = r} {s′ = s′} {o′ = o′} w =
       let t = textsOf tree in
       let x = body (stmt t (left - 1)) tree in
-      subst (λ (d : ℕ). Walked tree t (keysIn index keys) d (analyzeStmts t (valueOr noStmt (x place))) (nextOf (x place)) i s o r s′ o′) (level left a l)
-      (walked-as (ap (λ (k : ℕ). walkBody t (x k)) e ∙ given-ok noStmt _ (analyzeStmts t) (x place) h) (ap (λ (k : ℕ). nextOf (x k)) e) w)
+      subst (λ (d : ℕ). Walked tree t (keysIn index keys) d (f (analyzeStmts t (valueOr noStmt (x place)))) (g (nextOf (x place))) i s o r s′ o′) (level left a l)
+      (walked-as (ap f (ap (λ (k : ℕ). walkBody t (x k)) e ∙ given-ok noStmt _ (analyzeStmts t) (x place) h)) (ap (λ (k : ℕ). g (nextOf (x k))) e) w)
 
 -- an `else` goes by the symbols and the marks of its entry
 pub else-same : (t : List Text) (E : Else) (c c′ i : SemaContext) → c .symbols ≡ c′ .symbols → c .measured ≡ c′ .measured → analyzeElse t E c i ≡ analyzeElse t E c′ i

@@ -2,5 +2,6 @@ pub mod Plain
 pub mod Keyed
 pub mod Loop
 pub mod Enclosed
+pub mod Held
 pub mod Cases
 pub mod Branches

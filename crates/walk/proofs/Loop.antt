@@ -11,7 +11,7 @@ use Rattle.tree.specs.Stmts.{body, stmt}
 use Rattle.tree.specs.Decode.{textsOf}
 use Rattle.sema.specs.Marks.{Key}
 use Rattle.sema.specs.Stmts.{SemaContext, analyzeStmt, analyzeStmts}
-use Rattle.context.specs.declared.Sink.{Sink}
+use Rattle.context.specs.declared.State.{State}
 use Rattle.context.specs.Sink.{writtenOf, emit}
 use Rattle.context.specs.View.{numberAt, keysIn, scopesOf, contextOf}
 use Rattle.tables.specs.Tables.{tablesEnd}
@@ -20,7 +20,7 @@ use Rattle.accepted.specs.Cases.{blankStmt}
 use Rattle.accepted.specs.Parts.{valueOr, given-is, given-ok, next-is}
 use Rattle.accepted.specs.Fields.{repeat-none}
 use Rattle.accepted.specs.Bodies.{body-is, body-held, stmts-first, stmts-rest, stmts-is}
-use Rattle.promises.specs.Walks.{State, stateOf, Ready, StmtKeyed, BodyKeyed, walkStmt, walkBody, StmtWalked, BodyWalked}
+use Rattle.promises.specs.Walks.{Ready, StmtKeyed, BodyKeyed, walkStmt, walkBody, StmtWalked, BodyWalked}
 use Rattle.sema.specs.LawsOnly.{symbols-after}
 use Rattle.walk.proofs.Keyed.{first-keyed, rest-keyed}
 
@@ -42,9 +42,9 @@ pub ready-as : {tree s : List ℕ} {st r : State} → Ready tree s st → r .sin
 ready-as h e f = record { room = h .room; few = h .few; placed = rw f (h .placed); fits = rw e (h .fits) }
 
 -- the same under other names
-pub going-as : {tree : List ℕ} {ks : List Key} {depth left : ℕ} {whole : Ans Stmts} {st : State} {s o : List ℕ} {n : ℕ} {r : State} {s′ o′ s″ o″ m : List ℕ} {k : ℕ} {sink : Sink} → Going tree ks depth left whole st s o n r s′ o′ → s″ ≡ s′ → o″ ≡ o′ → m ≡ r .marks → k ≡ r .at → sink ≡ r .sink
-    → Going tree ks depth left whole st s o n (stateOf k sink m) s″ o″
-going-as g e f a b c = rw (e, f, a, b, c) g
+pub going-as : {tree : List ℕ} {ks : List Key} {depth left : ℕ} {whole : Ans Stmts} {st : State} {s o : List ℕ} {n : ℕ} {r r′ : State} {s′ o′ s″ o″ : List ℕ} → Going tree ks depth left whole st s o n r s′ o′ → s″ ≡ s′ → o″ ≡ o′ → r′ ≡ r
+    → Going tree ks depth left whole st s o n r′ s″ o″
+going-as g e f h = rw (e, f, h) g
 
 -- one statement more
 module _ (tree : List ℕ) (left n k : ℕ) (h : IsOk (repeat noStmt moreStmt (stmt (textsOf tree) left) n tree k)) (l : 0 < n) (m : ℕ) (e : m ≡ nextOf (stmt (textsOf tree) left tree k)) where

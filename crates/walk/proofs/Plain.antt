@@ -5,8 +5,9 @@ use mathlib.Core.Bool.{true, false, not, and-true, and-false, and-eq-true-iff}
 use mathlib.Core.List.{List}
 use lib.Dec.{eqb, ltb}
 use borrow.Author.Tests.{lt-ltb, le-ltb, ltb-true, ltb-false, ne-eqb, eqb-false, not-true}
-use Rattle.promises.specs.Walks.{State, Walkable, Ready, Passable}
+use Rattle.promises.specs.Walks.{Walkable, Ready, Passable}
 use Rattle.walk.specs.Bodies.{isPlain}
+use Rattle.context.specs.declared.State.{State}
 
 pub plain-low : (n : ℕ) → n < 12 → not (eqb n 6) ≡ isPlain n
 unfolding isPlain

@@ -1,19 +1,20 @@
-// The analysis of statements over accepted bytes: the Rust's analyze_stmt (plain_stmt, body_stmt) and analyze_stmts. The place and the
-// sink are handed on by value; the marks are lent, and saved where a body is entered that may be passed by.
+// The analysis of statements over accepted bytes: the Rust's analyze_stmt (plain_stmt, body_stmt) and analyze_stmts. The state is taken and
+// given by value, so a body that may be passed by leaves the marks of its entry; a statement without a body is lent the marks.
 
 use accepted::numbers::u16_at;
 use context::After;
 use context::Sink;
+use context::State;
 ghost use mathlib.Core.Path.{_≡_};
 ghost use mathlib.Core.Bool.{true, false};
-ghost use Prim.Native.Nat.{suc, _-_, _≤_, _<_};
-ghost use lib.ListN.{getD};
+ghost use Prim.Native.Nat.{suc, _+_, _-_, _≤_, _<_};
+ghost use lib.ListN.{length, getD};
 ghost use Rattle.tree.specs.Ans.{IsOk, nextOf};
 ghost use Rattle.tree.specs.Stmts.{stmt, body, elseBody};
 ghost use Rattle.tree.specs.Decode.{textsOf};
 ghost use Rattle.context.specs.View.{Placed, keysIn, scopesOf, contextOf};
 ghost use Rattle.promises.specs.Walks.{stateOf, Walkable, Ready, StmtKeyed, BodyKeyed, Walked, StmtWalked, BodyWalked};
-ghost use Rattle.walk.specs.Bodies.{isPlain, ElseKeyed, walkElse};
+ghost use Rattle.walk.specs.Bodies.{isPlain, LoopWalked, ElseKeyed, walkElse};
 
 fn gate_def(
     tree: &[u8],
@@ -22,32 +23,21 @@ fn gate_def(
     out: &mut [u8],
     keys: usize,
     left: usize,
-    marks: &mut [u16; 256],
-    at: usize,
-    sink: Sink,
-) -> After
-    requires { ⌜ Walkable (now tree) (now index) keys × Ready (now tree) (now scratch) (stateOf at sink (now marks)) × IsOk (stmt (textsOf (now tree)) left (now tree) at) × (left ≤ 8) × (getD (now tree) at 0 ≡ 6) ⌝ }
-    requires { ⌜ StmtKeyed (keysIn (now index) keys) (scopesOf (now scratch) (9 - left)) (stmt (textsOf (now tree)) left (now tree) at) ⌝ }
-    ensures { λ r. ⌜ StmtWalked (now (tree .entry)) (now (index .entry)) keys left (stateOf at sink (now (marks .entry))) (now (scratch .entry)) (now (out .entry)) (stateOf (r .next) (r .sink) (now (marks .exit))) (now (scratch .exit)) (now (out .exit)) ⌝ }
+    st: State,
+) -> State
+    requires { ⌜ Walkable (now tree) (now index) keys × Ready (now tree) (now scratch) st × IsOk (stmt (textsOf (now tree)) left (now tree) (st .at)) × (left ≤ 8) × (getD (now tree) (st .at) 0 ≡ 6) ⌝ }
+    requires { ⌜ StmtKeyed (keysIn (now index) keys) (scopesOf (now scratch) (9 - left)) (stmt (textsOf (now tree)) left (now tree) (st .at)) ⌝ }
+    ensures { λ r. ⌜ StmtWalked (now (tree .entry)) (now (index .entry)) keys left st (now (scratch .entry)) (now (out .entry)) r (now (scratch .exit)) (now (out .exit)) ⌝ }
 {
-    let a = bodies::open_gate(tree, index, scratch, out, left, at, sink);
+    let sink = st.sink;
+    let a = bodies::open_gate(tree, index, scratch, out, left, st.at, sink);
     let said = a.sink;
-    let r = analyze_stmts(
-        tree,
-        index,
-        scratch,
-        out,
-        keys,
-        left - 1,
-        marks,
-        a.next,
-        said,
-    );
-    let s = r.sink;
-    After {
-        next: r.next + 8,
-        sink: s,
-    }
+    let mut s = st;
+    s.at = a.next;
+    s.sink = said;
+    let mut r = analyze_stmts(tree, index, scratch, out, keys, left - 1, s);
+    r.at = r.at + 8;
+    r
 }
 
 fn branch(
@@ -57,37 +47,25 @@ fn branch(
     out: &mut [u8],
     keys: usize,
     left: usize,
-    marks: &mut [u16; 256],
-    at: usize,
-    sink: Sink,
-) -> After
-    requires { ⌜ Walkable (now tree) (now index) keys × Ready (now tree) (now scratch) (stateOf at sink (now marks)) × IsOk (stmt (textsOf (now tree)) left (now tree) at) × (left ≤ 8) × (getD (now tree) at 0 ≡ 12) ⌝ }
-    requires { ⌜ StmtKeyed (keysIn (now index) keys) (scopesOf (now scratch) (9 - left)) (stmt (textsOf (now tree)) left (now tree) at) ⌝ }
-    ensures { λ r. ⌜ StmtWalked (now (tree .entry)) (now (index .entry)) keys left (stateOf at sink (now (marks .entry))) (now (scratch .entry)) (now (out .entry)) (stateOf (r .next) (r .sink) (now (marks .exit))) (now (scratch .exit)) (now (out .exit)) ⌝ }
+    st: State,
+) -> State
+    requires { ⌜ Walkable (now tree) (now index) keys × Ready (now tree) (now scratch) st × IsOk (stmt (textsOf (now tree)) left (now tree) (st .at)) × (left ≤ 8) × (getD (now tree) (st .at) 0 ≡ 12) ⌝ }
+    requires { ⌜ StmtKeyed (keysIn (now index) keys) (scopesOf (now scratch) (9 - left)) (stmt (textsOf (now tree)) left (now tree) (st .at)) ⌝ }
+    ensures { λ r. ⌜ StmtWalked (now (tree .entry)) (now (index .entry)) keys left st (now (scratch .entry)) (now (out .entry)) r (now (scratch .exit)) (now (out .exit)) ⌝ }
 {
-    let mut entry = *marks;
-    let a = bodies::open_if(tree, index, scratch, out, left, at, sink);
+    let sink = st.sink;
+    let a = bodies::open_if(tree, index, scratch, out, left, st.at, sink);
     let said = a.sink;
-    let t = analyze_stmts(
-        tree,
-        index,
-        scratch,
-        out,
-        keys,
-        left - 1,
-        marks,
-        a.next,
-        said,
-    );
-    let e = branch_else(tree, index, scratch, out, keys, left, &mut entry, marks, t);
-    let s = e.sink;
-    After {
-        next: e.next + 8,
-        sink: s,
-    }
+    let mut s = st;
+    s.at = a.next;
+    s.sink = said;
+    let t = analyze_stmts(tree, index, scratch, out, keys, left - 1, s);
+    let mut e = branch_else(tree, index, scratch, out, keys, left, &s.marks, t);
+    e.at = e.at + 8;
+    e
 }
 
-// The `else` of an `if`, from the entry marks; t is what the `then` body came to, and `marks` has its marks. Both exits are united.
+// The `else` of an `if`, from the entry marks; t is the state after the `then` body. Both exits are united.
 fn branch_else(
     tree: &[u8],
     index: &[u64],
@@ -95,34 +73,30 @@ fn branch_else(
     out: &mut [u8],
     keys: usize,
     left: usize,
-    entry: &mut [u16; 256],
-    marks: &mut [u16; 256],
-    t: After,
-) -> After
-    requires { ⌜ Walkable (now tree) (now index) keys × Ready (now tree) (now scratch) (stateOf (t .next) (t .sink) (now entry)) × Placed (now tree) (now marks) × IsOk (elseBody (stmt (textsOf (now tree)) (left - 1)) (now tree) (t .next)) × (0 < left) × (left ≤ 8) ⌝ }
-    requires { ⌜ ElseKeyed (keysIn (now index) keys) (scopesOf (now scratch) (9 - left)) (elseBody (stmt (textsOf (now tree)) (left - 1)) (now tree) (t .next)) ⌝ }
-    ensures { λ r. ⌜ Walked (now (tree .entry)) (textsOf (now (tree .entry))) (keysIn (now (index .entry)) keys) (9 - left) (walkElse (textsOf (now (tree .entry))) (contextOf (now (tree .entry)) (keysIn (now (index .entry)) keys) (now (scratch .entry)) (suc (9 - left)) (now (marks .entry))) (elseBody (stmt (textsOf (now (tree .entry))) (left - 1)) (now (tree .entry)) (t .next))) (nextOf (elseBody (stmt (textsOf (now (tree .entry))) (left - 1)) (now (tree .entry)) (t .next))) (stateOf (t .next) (t .sink) (now (entry .entry))) (now (scratch .entry)) (now (out .entry)) (stateOf (r .next) (r .sink) (now (marks .exit))) (now (scratch .exit)) (now (out .exit)) ⌝ }
+    entry: &[u16; 256],
+    t: State,
+) -> State
+    requires { ⌜ Walkable (now tree) (now index) keys × Ready (now tree) (now scratch) (stateOf (t .at) (t .sink) (now entry)) × Placed (now tree) (t .marks) × IsOk (elseBody (stmt (textsOf (now tree)) (left - 1)) (now tree) (t .at)) × (0 < left) × (left ≤ 8) ⌝ }
+    requires { ⌜ ElseKeyed (keysIn (now index) keys) (scopesOf (now scratch) (9 - left)) (elseBody (stmt (textsOf (now tree)) (left - 1)) (now tree) (t .at)) ⌝ }
+    ensures { λ r. ⌜ Walked (now (tree .entry)) (textsOf (now (tree .entry))) (keysIn (now (index .entry)) keys) (9 - left) (walkElse (textsOf (now (tree .entry))) (contextOf (now (tree .entry)) (keysIn (now (index .entry)) keys) (now (scratch .entry)) (suc (9 - left)) (t .marks)) (elseBody (stmt (textsOf (now (tree .entry))) (left - 1)) (now (tree .entry)) (t .at))) (nextOf (elseBody (stmt (textsOf (now (tree .entry))) (left - 1)) (now (tree .entry)) (t .at))) (stateOf (t .at) (t .sink) (now (entry .entry))) (now (scratch .entry)) (now (out .entry)) r (now (scratch .exit)) (now (out .exit)) ⌝ }
 {
-    let at = t.next;
-    let sink = t.sink;
-    if tree[at] == 0 {
-        sheet::unite(entry, marks);
-        return After { next: at + 1, sink };
+    let k = t.at;
+    let mut then = t;
+    if tree[k] == 0 {
+        sheet::unite(entry, &mut then.marks);
+        then.at = k + 1;
+        return then;
     }
     tables::enter(scratch, 9 - left);
-    let e = analyze_stmts(
-        tree,
-        index,
-        scratch,
-        out,
-        keys,
-        left - 1,
-        entry,
-        at + 1,
+    let sink = t.sink;
+    let marks = *entry;
+    let inner = State {
+        at: k + 1,
         sink,
-    );
-    sheet::unite(marks, entry);
-    *marks = *entry;
+        marks,
+    };
+    let mut e = analyze_stmts(tree, index, scratch, out, keys, left - 1, inner);
+    sheet::unite(&then.marks, &mut e.marks);
     e
 }
 
@@ -133,34 +107,19 @@ fn for_loop(
     out: &mut [u8],
     keys: usize,
     left: usize,
-    marks: &mut [u16; 256],
-    at: usize,
-    sink: Sink,
-) -> After
-    requires { ⌜ Walkable (now tree) (now index) keys × Ready (now tree) (now scratch) (stateOf at sink (now marks)) × IsOk (stmt (textsOf (now tree)) left (now tree) at) × (left ≤ 8) × (getD (now tree) at 0 ≡ 13) ⌝ }
-    requires { ⌜ StmtKeyed (keysIn (now index) keys) (scopesOf (now scratch) (9 - left)) (stmt (textsOf (now tree)) left (now tree) at) ⌝ }
-    ensures { λ r. ⌜ StmtWalked (now (tree .entry)) (now (index .entry)) keys left (stateOf at sink (now (marks .entry))) (now (scratch .entry)) (now (out .entry)) (stateOf (r .next) (r .sink) (now (marks .exit))) (now (scratch .exit)) (now (out .exit)) ⌝ }
+    st: State,
+) -> State
+    requires { ⌜ Walkable (now tree) (now index) keys × Ready (now tree) (now scratch) st × IsOk (stmt (textsOf (now tree)) left (now tree) (st .at)) × (left ≤ 8) × (getD (now tree) (st .at) 0 ≡ 13) ⌝ }
+    requires { ⌜ StmtKeyed (keysIn (now index) keys) (scopesOf (now scratch) (9 - left)) (stmt (textsOf (now tree)) left (now tree) (st .at)) ⌝ }
+    ensures { λ r. ⌜ StmtWalked (now (tree .entry)) (now (index .entry)) keys left st (now (scratch .entry)) (now (out .entry)) r (now (scratch .exit)) (now (out .exit)) ⌝ }
 {
-    let entry = *marks;
-    let a = bodies::open_for(tree, index, scratch, out, left, at, sink);
+    let sink = st.sink;
+    let a = bodies::open_for(tree, index, scratch, out, left, st.at, sink);
     let said = a.sink;
-    let r = analyze_stmts(
-        tree,
-        index,
-        scratch,
-        out,
-        keys,
-        left - 1,
-        marks,
-        a.next,
-        said,
-    );
-    sheet::unite(&entry, marks);
-    let s = r.sink;
-    After {
-        next: r.next + 8,
-        sink: s,
-    }
+    let mut s = st;
+    s.at = a.next;
+    s.sink = said;
+    loop_body(tree, index, scratch, out, keys, left - 1, s)
 }
 
 fn while_loop(
@@ -170,34 +129,39 @@ fn while_loop(
     out: &mut [u8],
     keys: usize,
     left: usize,
-    marks: &mut [u16; 256],
-    at: usize,
-    sink: Sink,
-) -> After
-    requires { ⌜ Walkable (now tree) (now index) keys × Ready (now tree) (now scratch) (stateOf at sink (now marks)) × IsOk (stmt (textsOf (now tree)) left (now tree) at) × (left ≤ 8) × (getD (now tree) at 0 ≡ 14) ⌝ }
-    requires { ⌜ StmtKeyed (keysIn (now index) keys) (scopesOf (now scratch) (9 - left)) (stmt (textsOf (now tree)) left (now tree) at) ⌝ }
-    ensures { λ r. ⌜ StmtWalked (now (tree .entry)) (now (index .entry)) keys left (stateOf at sink (now (marks .entry))) (now (scratch .entry)) (now (out .entry)) (stateOf (r .next) (r .sink) (now (marks .exit))) (now (scratch .exit)) (now (out .exit)) ⌝ }
+    st: State,
+) -> State
+    requires { ⌜ Walkable (now tree) (now index) keys × Ready (now tree) (now scratch) st × IsOk (stmt (textsOf (now tree)) left (now tree) (st .at)) × (left ≤ 8) × (getD (now tree) (st .at) 0 ≡ 14) ⌝ }
+    requires { ⌜ StmtKeyed (keysIn (now index) keys) (scopesOf (now scratch) (9 - left)) (stmt (textsOf (now tree)) left (now tree) (st .at)) ⌝ }
+    ensures { λ r. ⌜ StmtWalked (now (tree .entry)) (now (index .entry)) keys left st (now (scratch .entry)) (now (out .entry)) r (now (scratch .exit)) (now (out .exit)) ⌝ }
 {
-    let entry = *marks;
-    let a = bodies::open_while(tree, index, scratch, out, left, at, sink);
+    let sink = st.sink;
+    let a = bodies::open_while(tree, index, scratch, out, left, st.at, sink);
     let said = a.sink;
-    let r = analyze_stmts(
-        tree,
-        index,
-        scratch,
-        out,
-        keys,
-        left - 1,
-        marks,
-        a.next,
-        said,
-    );
-    sheet::unite(&entry, marks);
-    let s = r.sink;
-    After {
-        next: r.next + 8,
-        sink: s,
-    }
+    let mut s = st;
+    s.at = a.next;
+    s.sink = said;
+    loop_body(tree, index, scratch, out, keys, left - 1, s)
+}
+
+// The body of a loop, and its span behind it. Entry and exit are united.
+fn loop_body(
+    tree: &[u8],
+    index: &[u64],
+    scratch: &mut [u8],
+    out: &mut [u8],
+    keys: usize,
+    left: usize,
+    st: State,
+) -> State
+    requires { ⌜ Walkable (now tree) (now index) keys × Ready (now tree) (now scratch) st × IsOk (body (stmt (textsOf (now tree)) left) (now tree) (st .at)) × (left ≤ 8) × (nextOf (body (stmt (textsOf (now tree)) left) (now tree) (st .at)) + 8 ≤ length (now tree)) ⌝ }
+    requires { ⌜ BodyKeyed (keysIn (now index) keys) (scopesOf (now scratch) (9 - left)) (body (stmt (textsOf (now tree)) left) (now tree) (st .at)) ⌝ }
+    ensures { λ r. ⌜ LoopWalked (now (tree .entry)) (now (index .entry)) keys left st (now (scratch .entry)) (now (out .entry)) r (now (scratch .exit)) (now (out .exit)) ⌝ }
+{
+    let mut r = analyze_stmts(tree, index, scratch, out, keys, left, st);
+    sheet::unite(&st.marks, &mut r.marks);
+    r.at = r.at + 8;
+    r
 }
 
 // Has the statement with this case byte no statements in it? A gate definition, an `if` and a loop have.
@@ -228,8 +192,8 @@ fn plain_stmt(
 {
     match tree[at] {
         0 => operations::include(tree, index, scratch, out, left, at, sink),
-        1 => declarations::register(tree, index, scratch, out, left, at, sink),
-        2 => declarations::register(tree, index, scratch, out, left, at, sink),
+        1 => declarations::qubit_decl(tree, index, scratch, out, left, at, sink),
+        2 => declarations::bit_decl(tree, index, scratch, out, left, at, sink),
         3 => declarations::classical_decl(tree, index, scratch, out, left, at, sink),
         4 => declarations::assignment(tree, index, scratch, out, left, at, sink),
         5 => operations::gate_call(tree, index, scratch, out, keys, left, marks, at, sink),
@@ -249,19 +213,18 @@ fn body_stmt(
     out: &mut [u8],
     keys: usize,
     left: usize,
-    marks: &mut [u16; 256],
-    at: usize,
-    sink: Sink,
-) -> After
-    requires { ⌜ Walkable (now tree) (now index) keys × Ready (now tree) (now scratch) (stateOf at sink (now marks)) × IsOk (stmt (textsOf (now tree)) left (now tree) at) × (left ≤ 8) × (isPlain (getD (now tree) at 0) ≡ false) ⌝ }
-    requires { ⌜ StmtKeyed (keysIn (now index) keys) (scopesOf (now scratch) (9 - left)) (stmt (textsOf (now tree)) left (now tree) at) ⌝ }
-    ensures { λ r. ⌜ StmtWalked (now (tree .entry)) (now (index .entry)) keys left (stateOf at sink (now (marks .entry))) (now (scratch .entry)) (now (out .entry)) (stateOf (r .next) (r .sink) (now (marks .exit))) (now (scratch .exit)) (now (out .exit)) ⌝ }
+    st: State,
+) -> State
+    requires { ⌜ Walkable (now tree) (now index) keys × Ready (now tree) (now scratch) st × IsOk (stmt (textsOf (now tree)) left (now tree) (st .at)) × (left ≤ 8) × (isPlain (getD (now tree) (st .at) 0) ≡ false) ⌝ }
+    requires { ⌜ StmtKeyed (keysIn (now index) keys) (scopesOf (now scratch) (9 - left)) (stmt (textsOf (now tree)) left (now tree) (st .at)) ⌝ }
+    ensures { λ r. ⌜ StmtWalked (now (tree .entry)) (now (index .entry)) keys left st (now (scratch .entry)) (now (out .entry)) r (now (scratch .exit)) (now (out .exit)) ⌝ }
 {
+    let at = st.at;
     match tree[at] {
-        6 => gate_def(tree, index, scratch, out, keys, left, marks, at, sink),
-        12 => branch(tree, index, scratch, out, keys, left, marks, at, sink),
-        13 => for_loop(tree, index, scratch, out, keys, left, marks, at, sink),
-        _ => while_loop(tree, index, scratch, out, keys, left, marks, at, sink),
+        6 => gate_def(tree, index, scratch, out, keys, left, st),
+        12 => branch(tree, index, scratch, out, keys, left, st),
+        13 => for_loop(tree, index, scratch, out, keys, left, st),
+        _ => while_loop(tree, index, scratch, out, keys, left, st),
     }
 }
 
@@ -273,28 +236,28 @@ pub fn analyze_stmts(
     out: &mut [u8],
     keys: usize,
     left: usize,
-    marks: &mut [u16; 256],
-    at: usize,
-    sink: Sink,
-) -> After
-    requires { ⌜ Walkable (now tree) (now index) keys × Ready (now tree) (now scratch) (stateOf at sink (now marks)) × IsOk (body (stmt (textsOf (now tree)) left) (now tree) at) × (left ≤ 8) ⌝ }
-    requires { ⌜ BodyKeyed (keysIn (now index) keys) (scopesOf (now scratch) (9 - left)) (body (stmt (textsOf (now tree)) left) (now tree) at) ⌝ }
-    ensures { λ r. ⌜ BodyWalked (now (tree .entry)) (now (index .entry)) keys left (stateOf at sink (now (marks .entry))) (now (scratch .entry)) (now (out .entry)) (stateOf (r .next) (r .sink) (now (marks .exit))) (now (scratch .exit)) (now (out .exit)) ⌝ }
+    st: State,
+) -> State
+    requires { ⌜ Walkable (now tree) (now index) keys × Ready (now tree) (now scratch) st × IsOk (body (stmt (textsOf (now tree)) left) (now tree) (st .at)) × (left ≤ 8) ⌝ }
+    requires { ⌜ BodyKeyed (keysIn (now index) keys) (scopesOf (now scratch) (9 - left)) (body (stmt (textsOf (now tree)) left) (now tree) (st .at)) ⌝ }
+    ensures { λ r. ⌜ BodyWalked (now (tree .entry)) (now (index .entry)) keys left st (now (scratch .entry)) (now (out .entry)) r (now (scratch .exit)) (now (out .exit)) ⌝ }
 {
+    let at = st.at;
     let mut n = u16_at(tree, at);
-    let mut k = at + 2;
-    let mut s = sink;
+    let mut s = st;
+    s.at = at + 2;
     while 0 < n {
+        let k = s.at;
         if is_plain(tree[k]) {
-            let a = plain_stmt(tree, index, scratch, out, keys, left, marks, k, s);
-            k = a.next;
-            s = a.sink;
+            let sink = s.sink;
+            let a = plain_stmt(tree, index, scratch, out, keys, left, &mut s.marks, k, sink);
+            let said = a.sink;
+            s.at = a.next;
+            s.sink = said;
         } else {
-            let a = body_stmt(tree, index, scratch, out, keys, left, marks, k, s);
-            k = a.next;
-            s = a.sink;
+            s = body_stmt(tree, index, scratch, out, keys, left, s);
         }
         n -= 1;
     }
-    After { next: k, sink: s }
+    s
 }

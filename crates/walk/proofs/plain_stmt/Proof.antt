@@ -1,5 +1,4 @@
 -- `walk::plain_stmt` meets its contract. Assumes nothing.
-use native.Mathlib.Omega.{arith}
 use Rattle.text.proofs.Unlike.{last-case}
 use Rattle.accepted.specs.Bodies.{stmt-in}
 use Rattle.walk.proofs.Plain.{plain-below, plain-other, passable}
@@ -12,8 +11,8 @@ plain-stmt-spec =
     tie.close (tie.spec
     (λ c. stmt-in _ _ _ _ (c .before .before .before .before .before .pre .0 .2))  -- shared-slice-read-match
     (λ c κs. let p = c .before .before .before .before .before .before .before .before .pre .0 in (passable (p .0) (p .1), p .2, p .3, c .before .before .match .keys1))  -- include-requires
-    (λ c κs. let p = c .before .before .before .before .before .before .before .before .pre .0 in (passable (p .0) (p .1), p .2, p .3, omega (arith, c .before .before .match .keys2), omega (arith, c .before .before .match .keys2)))  -- register-requires
-    (λ c κs. let p = c .before .before .before .before .before .before .before .before .pre .0 in (passable (p .0) (p .1), p .2, p .3, omega (arith, c .before .before .match .keys3), omega (arith, c .before .before .match .keys3)))  -- register-requires-2
+    (λ c κs. let p = c .before .before .before .before .before .before .before .before .pre .0 in (passable (p .0) (p .1), p .2, p .3, c .before .before .match .keys2))  -- qubit-decl-requires
+    (λ c κs. let p = c .before .before .before .before .before .before .before .before .pre .0 in (passable (p .0) (p .1), p .2, p .3, c .before .before .match .keys3))  -- bit-decl-requires
     (λ c κs. let p = c .before .before .before .before .before .before .before .before .pre .0 in (passable (p .0) (p .1), p .2, p .3, c .before .before .match .keys4))  -- classical-decl-requires
     (λ c κs. let p = c .before .before .before .before .before .before .before .before .pre .0 in (passable (p .0) (p .1), p .2, p .3, c .before .before .match .keys5))  -- assignment-requires
     (λ c κs. let p = c .before .before .before .before .before .before .before .before .before .pre .0 in (p .0, p .1, p .2, p .3, c .before .before .before .match .keys6))  -- gate-call-requires
@@ -30,10 +29,10 @@ plain-stmt-spec =
     (λ c. c .before .before .include .ensures _ _ (c .before .before .before .before .before .before .before .before .before .before .before .pre .0 .1 .placed))  -- returns
     (λ c. search needs)  -- same-length-3
     (λ c. search needs)  -- same-length-4
-    (λ c. c .before .before .before .before .register .ensures _ _ (c .before .before .before .before .before .before .before .before .before .before .before .before .before .pre .0 .1 .placed))  -- returns-2
+    (λ c. c .before .before .before .before .qubit-decl .ensures _ _ (c .before .before .before .before .before .before .before .before .before .before .before .before .before .pre .0 .1 .placed))  -- returns-2
     (λ c. search needs)  -- same-length-5
     (λ c. search needs)  -- same-length-6
-    (λ c. c .before .before .before .before .register2 .ensures _ _ (c .before .before .before .before .before .before .before .before .before .before .before .before .before .pre .0 .1 .placed))  -- returns-3
+    (λ c. c .before .before .before .before .bit-decl .ensures _ _ (c .before .before .before .before .before .before .before .before .before .before .before .before .before .pre .0 .1 .placed))  -- returns-3
     (λ c. search needs)  -- same-length-7
     (λ c. search needs)  -- same-length-8
     (λ c. c .before .before .before .before .classical-decl .ensures _ _ (c .before .before .before .before .before .before .before .before .before .before .before .before .before .pre .0 .1 .placed))  -- returns-4
