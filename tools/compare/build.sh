@@ -1,11 +1,7 @@
 #!/bin/sh
 # Builds target/compare. The folder of sema.rs, ast.rs and span.rs may be given.
 set -eu
-cd "$(dirname "$0")/../.."
-src=${1:-../shared/docs/src}
-mkdir -p target/qasm
-cp "$src/ast.rs" "$src/span.rs" "$src/sema.rs" target/qasm/
-chmod u+w target/qasm/*.rs
+. "$(dirname "$0")/../qasm.sh"
 # sema_wide.rs: its loops over a slice visit only what they need, and the sum
 # of gate qubits and control count does not overflow. Five lines differ.
 sed -e 's/for index in start..=end {/for index in crate::wide::indices(start, end, \&self.measured) {/' \

@@ -1,5 +1,4 @@
 pub mod Halves
-pub mod SkipExprs
 pub mod ReadOperands
 pub mod SkipParts
 pub mod TreeReaders

@@ -1,22 +1,23 @@
 -- What accepted bodies and statements say of their parts, before the cases: the count and the statements of a body, an `else`, the case byte
 -- of a statement, the levels left, and where a statement ends. Assumes nothing.
-use Prim.Native.Nat.{ℕ, zero, suc, _+_, _-_, _≤_, _<_}
+use Prim.Native.Nat.{ℕ, _+_, _-_, _≤_, _<_}
 use mathlib.Core.Path.{_≡_, refl, ap, subst}
 use mathlib.Core.List.{List}
 use native.Mathlib.Omega.{arith}
-use native.Mathlib.Numerals.{sub-one}
 use lib.ListN.{length, getD}
 use Rattle.ast.specs.Tree.{Text, Stmt, noStmt, moreStmt, noElse, someElse}
 use Rattle.tree.specs.Ans.{ok, Reader, refuse, IsOk, nextOf}
 use Rattle.tree.specs.Read.{option, repeat}
 use Rattle.tree.specs.Texts.{isName, isPath}
 use Rattle.tree.specs.Stmts.{classicalType, assignOp, body, toElse, elseBody, include, qubitDecl, bitDecl, classicalDecl, assignment, gateCall, gateDef, functionDef, measure, reset, barrier, delay, branch, forLoop, whileLoop, stmtCases, stmt}
+use Rattle.tree.specs.Levels.{stmt-levels}
 use Rattle.context.specs.View.{numberAt}
 use Rattle.accepted.specs.Cases.{blankStmt}
-use Rattle.accepted.specs.Parts.{valueOr, Goes, start, field, known, ends, stops}
-use Rattle.accepted.specs.Fields.{number-in, number-is, choice-in, choice-below, choice, option-in, option-none, option-held, option-some, repeat-first, repeat-rest, repeat-is}
+use Rattle.accepted.specs.Parts.{valueOr, Goes, start, field, known, ends}
+use Rattle.accepted.specs.Fields.{number-in, number-is, option-in, option-none, option-held, option-some, repeat-first, repeat-rest, repeat-is}
 use Rattle.accepted.specs.Remains.{Remains}
-use Rattle.accepted.specs.Ends.{Moves, seq-moves, last-moves, number-moves, span-moves, one-moves, text-moves, option-moves, repeat-moves, counted-moves, none-left, and, each-moves, refuse-moves, choice-moves}
+use Rattle.accepted.specs.Ends.{Moves, seq-moves, last-moves, number-moves, span-moves, one-moves, text-moves, option-moves, repeat-moves, counted-moves, none-left, and, each-moves, refuse-moves}
+use Rattle.accepted.specs.Levels.{level-in, level-below, level-left, level-goes, level-moves, level-end}
 use Rattle.accepted.specs.Operands.{qualifier-moves, operand-moves, held-moves, modifier-moves, forRange-moves, param-moves}
 
 -- a body: its two-byte count, and so many statements
@@ -56,25 +57,17 @@ module _ (inner : Reader Stmt) (s : List ℕ) (at : ℕ) (h : IsOk (elseBody inn
   else-some z m e = ends _ (known _ _ m (λ o. option-some s at (body inner) o noStmt m e z) refl (start h))
 
 pub stmt-in : (t : List Text) (left : ℕ) (s : List ℕ) (at : ℕ) → IsOk (stmt t left s at) → at < length s
-unfolding stmt
-stmt-in t zero s at h = choice-in s at 15 _ (start h)
-stmt-in t (suc left) s at h = choice-in s at 15 _ (start h)
+stmt-in t = level-in (stmt-levels t)
 
 pub stmt-below : (t : List Text) (left : ℕ) (s : List ℕ) (at : ℕ) → IsOk (stmt t left s at) → getD s at 0 < 15
-unfolding stmt
-stmt-below t zero s at h = choice-below s at 15 _ (start h)
-stmt-below t (suc left) s at h = choice-below s at 15 _ (start h)
+stmt-below t = level-below (stmt-levels t)
 
 pub stmt-left : (t : List Text) (left : ℕ) (s : List ℕ) (at : ℕ) → IsOk (stmt t left s at) → 0 < left
-unfolding stmt
-stmt-left t zero s at h = absurd (stops _ _ (choice s at 15 _ (start h) _ refl))
-stmt-left t (suc left) s at h = omega arith
+stmt-left t = level-left (stmt-levels t)
 
 -- behind the case byte
 pub stmt-goes : (t : List Text) (left : ℕ) (s : List ℕ) (at : ℕ) → IsOk (stmt t left s at) → (c : ℕ) → getD s at 0 ≡ c → Goes (stmt t left s at) (getD (stmtCases t (stmt t (left - 1)) at) c (refuse 4 at)) s (at + 1)
-unfolding stmt
-stmt-goes t zero s at h c e = let l = stmt-left t 0 s at h in absurd (omega arith)
-stmt-goes t (suc left) s at h c e = rw sub-one (choice s at 15 _ (start h) c e)
+stmt-goes t = level-goes (stmt-levels t)
 
 pub body-moves : {inner : Reader Stmt} → Moves inner → Moves (body inner)
 unfolding body
@@ -114,13 +107,10 @@ cases-move t inner m place c =
     c _ (refuse-moves 4 place)
 
 pub stmt-moves : (t : List Text) (left : ℕ) → Moves (stmt t left)
-unfolding stmt
-stmt-moves t zero = choice-moves 15 _ (λ place c. refuse-moves 6 place)
-stmt-moves t (suc left) = choice-moves 15 _ (cases-move t (stmt t left) (stmt-moves t left))
+stmt-moves t = level-moves (stmt-levels t) (cases-move t)
 
-module _ (t : List Text) (left : ℕ) (s : List ℕ) (at : ℕ) (h : IsOk (stmt t left s at)) where
-  pub stmt-end : nextOf (stmt t left s at) ≤ length s
-  stmt-end = let i = stmt-in t left s at h in let l : at ≤ length s = omega arith in stmt-moves t left .moves s at l h .1
+pub stmt-end : (t : List Text) (left : ℕ) (s : List ℕ) (at : ℕ) → IsOk (stmt t left s at) → nextOf (stmt t left s at) ≤ length s
+stmt-end t = level-end (stmt-levels t) (cases-move t)
 
 pub body-end : (t : List Text) (left : ℕ) (s : List ℕ) (at : ℕ) → IsOk (body (stmt t left) s at) → nextOf (body (stmt t left) s at) ≤ length s
 body-end t left s at h = let i = body-in (stmt t left) s at h in let l : at ≤ length s = omega arith in body-moves (stmt-moves t left) .moves s at l h .1

@@ -1,21 +1,27 @@
 -- What an accepted expression says of its parts, and which tree it is: for each production, the parts are accepted where they stand, the
 -- span's bytes are inside, and the whole is this value and this place. A place past a part is a number that equals its end. Assumes nothing.
-use Prim.Native.Nat.{ℕ, zero, suc, _+_, _-_, _≤_, _<_}
-use mathlib.Core.Path.{_≡_, refl}
+use Prim.Native.Nat.{ℕ, _+_, _-_, _≤_, _<_}
+use mathlib.Core.Path.{_≡_, refl, sym}
+use mathlib.Core.Bool.{Bool, true, false}
 use mathlib.Core.List.{List}
+use mathlib.Core.Logic.{_⊎_, inl, inr}
 use native.Mathlib.Omega.{arith}
-use native.Mathlib.Numerals.{sub-one}
 use lib.ListN.{length, getD}
+use lib.Dec.{eqb}
+use borrow.Author.Tests.{eqb-true, eqb-false}
+use Rattle.span.specs.declared.Span.{Span}
 use Rattle.ast.specs.Tree.{Text, Expr, noExpr, moreExpr}
-use Rattle.tree.specs.Ans.{ok, Reader, refuse, IsOk, nextOf}
-use Rattle.tree.specs.Read.{bool, repeat}
+use Rattle.tree.specs.Ans.{ok, Reader, _>>=_, done, refuse, IsOk, nextOf}
+use Rattle.tree.specs.Read.{span, bool, repeat}
 use Rattle.tree.specs.Texts.{isName, isFloat}
 use Rattle.tree.specs.Exprs.{constKind, binOp, compareOp, exprs, intLit, floatLit, boolLit, ident, index, call, const, neg, binary, compare, exprCases, expr}
+use Rattle.tree.specs.Levels.{expr-levels}
 use Rattle.context.specs.View.{numberAt, spanAt}
 use Rattle.accepted.specs.Cases.{boolOf, constKindOf, binOpOf, compareOpOf, blank}
-use Rattle.accepted.specs.Parts.{valueOr, end-in, Goes, start, field, known, past, ends, stops}
-use Rattle.accepted.specs.Fields.{number-is, span-is, one-is, choice-in, choice-below, choice, text-in-at, text-below, text-is, repeat-first, repeat-rest, repeat-is}
-use Rattle.accepted.specs.Ends.{Moves, seq-moves, last-moves, number-moves, span-moves, one-moves, text-moves, counted-moves, none-left, and, each-moves, refuse-moves, choice-moves}
+use Rattle.accepted.specs.Parts.{valueOr, next-is, end-in, Goes, field, known, past, ends}
+use Rattle.accepted.specs.Fields.{number-is, span-is, one-is, text-in-at, text-below, text-is, repeat-first, repeat-rest, repeat-is}
+use Rattle.accepted.specs.Ends.{Moves, seq-moves, last-moves, number-moves, span-moves, one-moves, text-moves, counted-moves, none-left, and, each-moves, refuse-moves}
+use Rattle.accepted.specs.Levels.{level-in, level-below, level-left, level-goes, level-moves, level-end}
 
 module _ (s : List ℕ) (at : ℕ) where
   bool-is : IsOk (bool s at) → bool s at ≡ ok (boolOf (getD s at 0)) (at + 1)
@@ -35,25 +41,17 @@ module _ (s : List ℕ) (at : ℕ) where
   compareOp-is h = one-is s at _ _ h
 
 pub expr-in : (t : List Text) (left : ℕ) (s : List ℕ) (at : ℕ) → IsOk (expr t left s at) → at < length s
-unfolding expr
-expr-in t zero s at h = choice-in s at 10 _ (start h)
-expr-in t (suc left) s at h = choice-in s at 10 _ (start h)
+expr-in t = level-in (expr-levels t)
 
 pub expr-below : (t : List Text) (left : ℕ) (s : List ℕ) (at : ℕ) → IsOk (expr t left s at) → getD s at 0 < 10
-unfolding expr
-expr-below t zero s at h = choice-below s at 10 _ (start h)
-expr-below t (suc left) s at h = choice-below s at 10 _ (start h)
+expr-below t = level-below (expr-levels t)
 
 pub expr-left : (t : List Text) (left : ℕ) (s : List ℕ) (at : ℕ) → IsOk (expr t left s at) → 0 < left
-unfolding expr
-expr-left t zero s at h = absurd (stops _ _ (choice s at 10 _ (start h) _ refl))
-expr-left t (suc left) s at h = omega arith
+expr-left t = level-left (expr-levels t)
 
 -- behind the case byte
 expr-goes : (t : List Text) (left : ℕ) (s : List ℕ) (at : ℕ) → IsOk (expr t left s at) → (c : ℕ) → getD s at 0 ≡ c → Goes (expr t left s at) (getD (exprCases t (expr t (left - 1))) c (refuse 4 at)) s (at + 1)
-unfolding expr
-expr-goes t zero s at h c e = let l = expr-left t 0 s at h in absurd (omega arith)
-expr-goes t (suc left) s at h c e = rw sub-one (choice s at 10 _ (start h) c e)
+expr-goes t = level-goes (expr-levels t)
 
 cases-move : (t : List Text) (inner : Reader Expr) → Moves inner → (place c : ℕ) → Moves (getD (exprCases t inner) c (refuse 4 place))
 unfolding exprCases intLit floatLit boolLit ident index call const neg binary compare bool constKind binOp compareOp
@@ -74,12 +72,18 @@ cases-move t inner m place c =
     c _ (refuse-moves 4 place)
 
 pub expr-moves : (t : List Text) (left : ℕ) → Moves (expr t left)
-unfolding expr
-expr-moves t zero = choice-moves 10 _ (λ place c. refuse-moves 6 place)
-expr-moves t (suc left) = choice-moves 10 _ (cases-move t (expr t left) (expr-moves t left))
+expr-moves t = level-moves (expr-levels t) (cases-move t)
 
 pub expr-end : (t : List Text) (left : ℕ) (s : List ℕ) (at : ℕ) → IsOk (expr t left s at) → nextOf (expr t left s at) ≤ length s
-expr-end t left s at h = let i = expr-in t left s at h in let l : at ≤ length s = omega arith in expr-moves t left .moves s at l h .1
+expr-end t = level-end (expr-levels t) (cases-move t)
+
+-- two operands and the span, behind an operator
+abbrev operands : (Expr → Expr → Span → Expr) → Reader Expr → Reader Expr
+operands make inner = do
+  lhs ← inner
+  rhs ← inner
+  sp ← span
+  done (make lhs rhs sp)
 
 module _ (t : List Text) (left : ℕ) (s : List ℕ) (at : ℕ) (h : IsOk (expr t left s at)) where
   -- an integer literal
@@ -180,43 +184,54 @@ module _ (t : List Text) (left : ℕ) (s : List ℕ) (at : ℕ) (h : IsOk (expr 
       pub neg-inside : k + 8 ≤ length s
       neg-inside = end-in neg-is (expr-end t left s at h)
 
-  -- an arithmetic operation
-  module _ (b : getD s at 0 ≡ 8) where
-    pub binary-lhs : IsOk (expr t (left - 1) s (at + 2))
-    unfolding exprCases binary
-    binary-lhs = field _ _ (known _ _ (at + 2) (binOp-is s (at + 1)) (omega arith) (expr-goes t left s at h 8 b))
+  -- an arithmetic operation or a comparison
+  abbrev pub Operation : Type 0
+  Operation = (getD s at 0 ≡ 8) ⊎ (getD s at 0 ≡ 9)
+
+  pub operation : 8 ≤ getD s at 0 → Operation
+  operation l = go (eqb (getD s at 0) 8) refl
+    where
+      go : (v : Bool) → eqb (getD s at 0) 8 ≡ v → Operation
+      go true e = inl (eqb-true (getD s at 0) 8 e)
+      go false e = let n = eqb-false (getD s at 0) 8 e in let u = expr-below t left s at h in inr (omega arith)
+
+  unfoldable pairOf : Operation → Expr → Expr → Span → Expr
+  pairOf (inl b) = Expr.BinOp (binOpOf (getD s (at + 1) 0))
+  pairOf (inr b) = Expr.Compare (compareOpOf (getD s (at + 1) 0))
+
+  pair-goes : (b : Operation) → Goes (expr t left s at) (operands (pairOf b) (expr t (left - 1))) s (at + 2)
+  unfolding exprCases binary compare pairOf
+  pair-goes (inl b) = known _ _ (at + 2) (binOp-is s (at + 1)) (omega arith) (expr-goes t left s at h 8 b)
+  pair-goes (inr b) = known _ _ (at + 2) (compareOp-is s (at + 1)) (omega arith) (expr-goes t left s at h 9 b)
+
+  abbrev PairIs : (Expr → Expr → Span → Expr) → Type 0
+  PairIs make = (k : ℕ) → k ≡ nextOf (expr t (left - 1) s (at + 2)) → (m : ℕ) → m ≡ nextOf (expr t (left - 1) s k) → expr t left s at ≡ ok (make (valueOr blank (expr t (left - 1) s (at + 2))) (valueOr blank (expr t (left - 1) s k)) (spanAt s m)) (m + 8)
+
+  module _ (b : Operation) where
+    pub pair-lhs : IsOk (expr t (left - 1) s (at + 2))
+    pair-lhs = field _ _ (pair-goes b)
+
+    pair-is : PairIs (pairOf b)
+    pair-is k k-end m m-end = ends _ (known _ _ (m + 8) (span-is s m) refl (past _ _ blank m m-end (past _ _ blank k k-end (pair-goes b))))
 
     module _ (k : ℕ) (k-end : k ≡ nextOf (expr t (left - 1) s (at + 2))) where
-      pub binary-rhs : IsOk (expr t (left - 1) s k)
-      unfolding exprCases binary
-      binary-rhs = field _ _ (past _ _ blank k k-end (known _ _ (at + 2) (binOp-is s (at + 1)) (omega arith) (expr-goes t left s at h 8 b)))
+      pub pair-rhs : IsOk (expr t (left - 1) s k)
+      pair-rhs = field _ _ (past _ _ blank k k-end (pair-goes b))
 
       module _ (m : ℕ) (m-end : m ≡ nextOf (expr t (left - 1) s k)) where
-        pub binary-is : expr t left s at ≡ ok (Expr.BinOp (binOpOf (getD s (at + 1) 0)) (valueOr blank (expr t (left - 1) s (at + 2))) (valueOr blank (expr t (left - 1) s k)) (spanAt s m)) (m + 8)
-        unfolding exprCases binary
-        binary-is = ends _ (known _ _ (m + 8) (span-is s m) refl (past _ _ blank m m-end (past _ _ blank k k-end (known _ _ (at + 2) (binOp-is s (at + 1)) (omega arith) (expr-goes t left s at h 8 b)))))
+        pub pair-next : m + 8 ≡ nextOf (expr t left s at)
+        pair-next = sym (next-is (pair-is k k-end m m-end))
 
-        pub binary-inside : m + 8 ≤ length s
-        binary-inside = end-in binary-is (expr-end t left s at h)
+        pub pair-inside : m + 8 ≤ length s
+        pair-inside = end-in (pair-is k k-end m m-end) (expr-end t left s at h)
 
-  -- a comparison
-  module _ (b : getD s at 0 ≡ 9) where
-    pub compare-lhs : IsOk (expr t (left - 1) s (at + 2))
-    unfolding exprCases compare
-    compare-lhs = field _ _ (known _ _ (at + 2) (compareOp-is s (at + 1)) (omega arith) (expr-goes t left s at h 9 b))
+  pub binary-is : getD s at 0 ≡ 8 → PairIs (Expr.BinOp (binOpOf (getD s (at + 1) 0)))
+  unfolding pairOf
+  binary-is b = pair-is (inl b)
 
-    module _ (k : ℕ) (k-end : k ≡ nextOf (expr t (left - 1) s (at + 2))) where
-      pub compare-rhs : IsOk (expr t (left - 1) s k)
-      unfolding exprCases compare
-      compare-rhs = field _ _ (past _ _ blank k k-end (known _ _ (at + 2) (compareOp-is s (at + 1)) (omega arith) (expr-goes t left s at h 9 b)))
-
-      module _ (m : ℕ) (m-end : m ≡ nextOf (expr t (left - 1) s k)) where
-        pub compare-is : expr t left s at ≡ ok (Expr.Compare (compareOpOf (getD s (at + 1) 0)) (valueOr blank (expr t (left - 1) s (at + 2))) (valueOr blank (expr t (left - 1) s k)) (spanAt s m)) (m + 8)
-        unfolding exprCases compare
-        compare-is = ends _ (known _ _ (m + 8) (span-is s m) refl (past _ _ blank m m-end (past _ _ blank k k-end (known _ _ (at + 2) (compareOp-is s (at + 1)) (omega arith) (expr-goes t left s at h 9 b)))))
-
-        pub compare-inside : m + 8 ≤ length s
-        compare-inside = end-in compare-is (expr-end t left s at h)
+  pub compare-is : getD s at 0 ≡ 9 → PairIs (Expr.Compare (compareOpOf (getD s (at + 1) 0)))
+  unfolding pairOf
+  compare-is b = pair-is (inr b)
 
 -- the arguments of a call, and the parameters of a gate call: one expression more
 module _ (t : List Text) (left : ℕ) (s : List ℕ) (n k : ℕ) (h : IsOk (repeat noExpr moreExpr (expr t left) n s k)) (l : 0 < n) where

@@ -4,7 +4,9 @@ pub mod Remains
 pub mod Ends
 pub mod Cases
 pub mod Numbers
+pub mod Levels
 pub mod Exprs
+pub mod Spans
 pub mod Operands
 pub mod Sizes
 pub mod Bodies

@@ -1,11 +1,11 @@
 // Steps over expressions: sizes added by the case byte.
+use text::wide;
 ghost use mathlib.Core.Path.{_≡_};
 ghost use Rattle.tree.specs.Ans.{IsOk, nextOf};
 ghost use Rattle.tree.specs.Read.{option};
 ghost use Rattle.tree.specs.Exprs.{expr, exprs};
 ghost use Rattle.tree.specs.Stmts.{held};
 ghost use Rattle.tree.specs.Decode.{textsOf};
-use crate::numbers::wide;
 
 // The place past an expression with so many levels left.
 pub fn skip_expr(s: &[u8], at: usize, left: usize) -> usize

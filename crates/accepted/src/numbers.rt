@@ -4,12 +4,7 @@ ghost use Prim.Native.Nat.{_+_, _≤_, _<_};
 ghost use lib.ListN.{length, getD};
 ghost use Rattle.context.specs.View.{numberAt, spanAt};
 use span::Span;
-
-pub fn wide(x: u8) -> usize
-    ensures { λ r. ⌜ (r ≡ x) × (r < 256) ⌝ }
-{
-    x as usize
-}
+use text::wide;
 
 fn word(x: u8) -> u32
     ensures { λ r. ⌜ (r ≡ x) × (r < 256) ⌝ }

@@ -10,7 +10,7 @@ ghost use Rattle.tree.specs.Decode.{textsOf};
 ghost use Rattle.accepted.specs.Sizes.{optionEnd};
 use crate::exprs::skip_expr;
 use crate::exprs::skip_option_expr;
-use crate::numbers::wide;
+use text::wide;
 
 // The place past an Option of a value of so many bytes.
 fn skip_option(s: &[u8], at: usize, size: usize) -> usize

@@ -16,7 +16,6 @@ ghost use Rattle.bodies.specs.Opened.{gateKnown};
 ghost use Rattle.bodies.specs.Parts.{GatePartsOf, GateEntered};
 use accepted::numbers::span_at;
 use accepted::numbers::u16_at;
-use accepted::numbers::wide;
 use accepted::parts::skip_names;
 use accepted::stmts::skip_body;
 use context::FoundGate;
@@ -24,6 +23,7 @@ use context::GateSig;
 use context::Sink;
 use lines::Message;
 use span::Span;
+use text::wide;
 
 // The parts of a gate definition.
 pub struct GateParts {

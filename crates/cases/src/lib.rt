@@ -1,5 +1,6 @@
 // Reads the trees of a file of cases from standard input, each behind its length in four bytes.
 use libc::STDIN_FILENO;
+use text::wide;
 ghost use mathlib.Core.Path.{_≡_};
 ghost use Prim.Native.Nat.{_<_, _≤_};
 ghost use lib.ListN.{length};
@@ -8,12 +9,6 @@ ghost use Rattle.cases.specs.Case.{sizeOf};
 pub enum Case {
     Tree(usize),
     End,
-}
-
-fn wide(x: u8) -> usize
-    ensures { λ r. ⌜ (r ≡ x) × (r < 256) ⌝ }
-{
-    x as usize
 }
 
 // The next tree, at the beginning of the space; the end also where it has no room or is cut short.

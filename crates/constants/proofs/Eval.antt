@@ -3,6 +3,7 @@ use Prim.Native.Nat.{ℕ, zero, suc, _+_, _-_}
 use mathlib.Core.Path.{_≡_, refl, sym, ap, _∙_}
 use mathlib.Core.List.{List}
 use mathlib.Core.Option.{none}
+use mathlib.Core.Logic.{inl}
 use mathlib.Core.Bool.{false}
 use native.Mathlib.Omega.{arith}
 use lib.ListN.{getD}
@@ -45,8 +46,8 @@ module _ (t : List Text) (left : ℕ) (s : List ℕ) (at : ℕ) (h : IsOk (expr 
   unfolding evalConstInt combined
   pair-value b l p r q v f =
       let is = of.binary-is t left s at h b _ (p .next) _ (q .next) in
-      let first = value-of _ l (of.binary-lhs t left s at h b) p in
-      let second = value-of _ r (of.binary-rhs t left s at h b _ (p .next)) q in
+      let first = value-of _ l (of.pair-lhs t left s at h (inl b)) p in
+      let second = value-of _ r (of.pair-rhs t left s at h (inl b) _ (p .next)) q in
       record {
         next = sym (next-is is);
         value = f ∙ rw (first, second) refl ∙ sym (given-is is none evalConstInt);

@@ -12,10 +12,10 @@ ghost use Rattle.accepted.specs.Cases.{binOpOf};
 ghost use Rattle.constants.specs.Views.{wholeOf, totalOf, combined, added, isCount, ValueOf, Counted, Added, TotalOf};
 use accepted::exprs::skip_expr;
 use accepted::numbers::u64_at;
-use accepted::numbers::wide;
 use int128::Checked;
 use int128::Int128;
 use int128::Word;
+use text::wide;
 
 pub struct Evaluated {
     pub value: Checked,

@@ -36,7 +36,7 @@ use Rattle.promises.specs.Typings.{TypingOf}
 use Rattle.promises.specs.Walks.{Ready, StmtWalked}
 use Rattle.promises.specs.WalkLaws.{marks-kept, context-is, same-walked}
 use Rattle.declarations.specs.Says.{spanned, targetBy}
-use Rattle.declarations.specs.Spans.{expr-long, span-last}
+use Rattle.accepted.specs.Spans.{span-here, span-room}
 
 module _ {t : List Text} {s : Sink} {o : List ℕ} {r : Sink} {o′ : List ℕ} where
   pub target-none : (ss : Symbols) (f : FoundSymbol) (x op : ℕ) (v sp : Span) (ty : Option ClassicalType) → foundOf f ≡ get ss x → f ≡ FoundSymbol.None → Emitted t (diagnosticOf (errorOf (Message.NotDeclared x) sp) ∷ []) s o r o′ → Emitted t (targetBy (get ss x) x (assignOpOf op) (spanned v) sp ty) s o r o′
@@ -84,10 +84,10 @@ module _ {t : List Text} {ss : Symbols} {fs : Table FunctionSig} (left : ℕ) (t
   checked-type = p .type ∙ given-ok blank none (λ e. checkExpr ss fs e .type) _ h
 
   pub checked-span : spanAt tree (r .next - 8) ≡ exprSpan (valueOr blank (expr t left tree at))
-  checked-span = ap (λ n. spanAt tree (n - 8)) (p .next) ∙ sym (span-last t left tree at h)
+  checked-span = span-here t left tree at h _ (p .next)
 
   pub checked-long : 8 ≤ r .next
-  checked-long = rw (p .next) (expr-long t left tree at h)
+  checked-long = span-room t left tree at h _ (p .next)
 
   pub checked-inside : r .next ≤ length tree
   checked-inside = rw (p .next) (expr-end t left tree at h)

@@ -24,7 +24,6 @@ ghost use Rattle.declarations.specs.Says.{classicalRest, spanned, target
 ghost use Rattle.declarations.specs.Checked.{Checkable, Declared, initAt, Defined, BodyChecked};
 use accepted::numbers::span_at;
 use accepted::numbers::u16_at;
-use accepted::numbers::wide;
 use accepted::parts::skip_qualifier;
 use ast::ClassicalType;
 use context::After;
@@ -46,6 +45,7 @@ use reports::report_defined;
 use reports::report_error;
 use scopes::type_at;
 use span::Span;
+use text::wide;
 
 // Gives the name a symbol in the innermost scope; the first declaration stays.
 fn declare(

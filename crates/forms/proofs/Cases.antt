@@ -1,15 +1,16 @@
 -- The cases of modifiers and expressions: a law for each way out of the code. Assumes nothing.
-use Prim.Native.Nat.{ℕ, zero, suc, _<_, _≤_, _-_}
-use mathlib.Core.Path.{_≡_, refl, sym, ap, _∙_}
+use Prim.Native.Nat.{ℕ, suc, _<_, _≤_, _-_}
+use mathlib.Core.Path.{_≡_, sym, ap, _∙_}
 use mathlib.Core.List.{List, [], _∷_}
 use native.Mathlib.Omega.{arith}
-use native.Mathlib.Numerals.{sub-one}
+use native.Mathlib.Decide.{ℕ-discrete}
 use lib.ListN.{getD}
 use Rattle.ast.specs.Tree.{Text}
 use Rattle.tree.specs.Ans.{refuse}
 use Rattle.tree.specs.Read.{span, caseByte}
 use Rattle.tree.specs.Exprs.{intLit, floatLit, boolLit, ident, index, call, const, neg, binary, compare, exprCases, expr}
 use Rattle.tree.specs.Stmts.{ctrl, negCtrl, inv, pow, modifier}
+use Rattle.tree.specs.Levels.{expr-levels}
 use Rattle.reading.specs.Answers.{forget, gaveByte, byteAnswer}
 use Rattle.reading.specs.declared.answers.Read.{Read}
 use Rattle.reading.specs.declared.answers.Read.the-variants.{Refused}
@@ -17,7 +18,8 @@ use Rattle.reading.specs.declared.answers.ReadByte.{ReadByte}
 use Rattle.reading.proofs.Taken.{span-left}
 use Rattle.reading.proofs.Runs.{skip, runs-last}
 use Rattle.reading.proofs.Values.{case-below, choice-refused, choice-read}
-use Rattle.forms.proofs.Fields.{ctrl-runs, neg-ctrl-is, inv-is}
+use Rattle.reading.proofs.Levels.{level-refused, level-over, level-arm}
+use Rattle.forms.proofs.Fields.{inv-is}
 
 -- a byte that is none of the first cases is the last: what is not below a number, and not the number, is not below the next
 pub up : (b n : ℕ) → (b ≡ n → ⊥) → n ≤ b → suc n ≤ b
@@ -37,12 +39,11 @@ module _ (t : List Text) (s : List ℕ) (at : ℕ) (a : ReadByte) (read : a ≡ 
     unfolding modifier
     modifier-arm c e h = h ∙ sym (ap forget (choice-read 4 _ s at a read c k (rw e at g)))
 
-    -- `ctrl` and `negctrl` have the same fields
     pub ctrl-arm : b ≡ 0 → r ≡ forget (ctrl t s k) → r ≡ forget (modifier t s at)
     ctrl-arm = modifier-arm 0
 
-    pub neg-ctrl-arm : b ≡ 1 → r ≡ forget (ctrl t s k) → r ≡ forget (modifier t s at)
-    neg-ctrl-arm e h = modifier-arm 1 e (neg-ctrl-is t s k r (h ∙ ctrl-runs t s k r))
+    pub neg-ctrl-arm : b ≡ 1 → r ≡ forget (negCtrl t s k) → r ≡ forget (modifier t s at)
+    neg-ctrl-arm = modifier-arm 1
 
     pub inv-arm : b ≡ 2 → r ≡ forget (span s k) → r ≡ forget (modifier t s at)
     inv-arm e h = modifier-arm 2 e (inv-is t s k r (runs-last (skip span) s k r h))
@@ -55,26 +56,15 @@ pub ruleset modifiers = (modifier-refused, ctrl-arm, neg-ctrl-arm, inv-arm, pow-
 -- expressions
 module _ (t : List Text) (left : ℕ) (s : List ℕ) (at : ℕ) (a : ReadByte) (read : a ≡ gaveByte (caseByte 10 s at)) where
   pub expr-refused : (m p : ℕ) → a ≡ ReadByte.Refused m p → (r : Read) → r ≡ forget (byteAnswer a) → r ≡ forget (expr t left s at)
-  unfolding expr
-  expr-refused m p g r h = go left
-    where
-      go : (left : ℕ) → r ≡ forget (expr t left s at)
-      go zero = choice-refused 10 _ s at a read m p g r h
-      go (suc left) = choice-refused 10 _ s at a read m p g r h
+  expr-refused = level-refused (expr-levels t) left s at a read
 
   module _ (b k : ℕ) (g : a ≡ ReadByte.At b k) where
     pub expr-over : left ≡ 0 → Refused 6 at ≡ forget (expr t left s at)
-    unfolding expr refuse forget
-    expr-over z = rw z (sym (ap forget (choice-read 10 _ s at a read b k g)))
+    expr-over = level-over (expr-levels t) left s at a read b k g
 
     module _ (deep : left ≡ 0 → ⊥) (r : Read) where
       expr-arm : (c : ℕ) → b ≡ c → r ≡ forget (getD (exprCases t (expr t (left - 1))) c (refuse 4 at) s k) → r ≡ forget (expr t left s at)
-      unfolding expr
-      expr-arm c e h = go left deep h
-        where
-          go : (left : ℕ) → (left ≡ 0 → ⊥) → r ≡ forget (getD (exprCases t (expr t (left - 1))) c (refuse 4 at) s k) → r ≡ forget (expr t left s at)
-          go zero d h = absurd (d refl)
-          go (suc left) d h = rw sub-one at h ∙ sym (ap forget (choice-read 10 _ s at a read c k (rw e at g)))
+      expr-arm = level-arm (expr-levels t) left s at a read b k g deep r
 
       pub arm-int-lit : b ≡ 0 → r ≡ forget (intLit t s k) → r ≡ forget (expr t left s at)
       unfolding exprCases
@@ -108,12 +98,14 @@ module _ (t : List Text) (left : ℕ) (s : List ℕ) (at : ℕ) (a : ReadByte) (
       unfolding exprCases
       arm-neg = expr-arm 7
 
-      pub arm-binary : b ≡ 8 → r ≡ forget (binary t (expr t (left - 1)) s k) → r ≡ forget (expr t left s at)
+      -- an operation or a comparison, by the number of operators
+      pub arm-pair : 8 ≤ b → (ops : ℕ) → (b ≡ 8 → ops ≡ 5) × ((b ≡ 8 → ⊥) → ops ≡ 6)
+          → (ops ≡ 5 → r ≡ forget (binary t (expr t (left - 1)) s k)) × (ops ≡ 6 → r ≡ forget (compare t (expr t (left - 1)) s k)) → r ≡ forget (expr t left s at)
       unfolding exprCases
-      arm-binary = expr-arm 8
+      arm-pair l ops o h = go (ℕ-discrete b 8)
+        where
+          go : Dec (b ≡ 8) → r ≡ forget (expr t left s at)
+          go (yes e) = expr-arm 8 e (h .0 (o .0 e))
+          go (no n) = expr-arm 9 (omega (arith, case-below s at 10 a read b k g)) (h .1 (o .1 n))
 
-      pub arm-compare : (b ≡ 0 → ⊥) → (b ≡ 1 → ⊥) → (b ≡ 2 → ⊥) → (b ≡ 3 → ⊥) → (b ≡ 4 → ⊥) → (b ≡ 5 → ⊥) → (b ≡ 6 → ⊥) → (b ≡ 7 → ⊥) → (b ≡ 8 → ⊥) → r ≡ forget (compare t (expr t (left - 1)) s k) → r ≡ forget (expr t left s at)
-      unfolding exprCases
-      arm-compare n0 n1 n2 n3 n4 n5 n6 n7 n8 = expr-arm 9 (last b 9 (case-below s at 10 a read b k g) (up b 8 n8 (up b 7 n7 (up b 6 n6 (up b 5 n5 (up b 4 n4 (up b 3 n3 (up b 2 n2 (up b 1 n1 (up b 0 n0 (omega arith)))))))))))
-
-pub ruleset expressions = (expr-refused, expr-over, arm-int-lit, arm-float-lit, arm-bool-lit, arm-ident, arm-index, arm-call, arm-const, arm-neg, arm-binary, arm-compare)
+pub ruleset expressions = (expr-refused, expr-over, arm-int-lit, arm-float-lit, arm-bool-lit, arm-ident, arm-index, arm-call, arm-const, arm-neg)

@@ -121,30 +121,19 @@ fn read_neg(s: &[u8], kinds: &[u8], at: usize, left: usize) -> Read
     read_span(s, k).into_read()
 }
 
-fn read_binary(s: &[u8], kinds: &[u8], at: usize, left: usize) -> Read
-    requires { ⌜ now kinds ≡ kindsOf (now s) ⌝ }
-    ensures { λ r. ⌜ r ≡ forget (binary (textsOf (now (s .entry))) (expr (textsOf (now (s .entry))) left) (now (s .entry)) at) ⌝ }
+// How many operators there are behind this case byte, of an operation or a comparison.
+fn operators(case: u8) -> u8
+    ensures { λ r. ⌜ (case ≡ 8 → r ≡ 5) × ((case ≡ 8 → ⊥) → r ≡ 6) ⌝ }
 {
-    let a = read_case(s, at, BIN_OPS);
-    let ReadByte::At(_, k) = a else {
-        return a.into_read();
-    };
-    let b = read_expr(s, kinds, k, left);
-    let Read::At(l) = b else {
-        return b;
-    };
-    let c = read_expr(s, kinds, l, left);
-    let Read::At(m) = c else {
-        return c;
-    };
-    read_span(s, m).into_read()
+    if case == 8 { BIN_OPS } else { COMPARE_OPS }
 }
 
-fn read_compare(s: &[u8], kinds: &[u8], at: usize, left: usize) -> Read
+// An operator, one of so many, and its two operands.
+fn read_pair(s: &[u8], kinds: &[u8], at: usize, left: usize, ops: u8) -> Read
     requires { ⌜ now kinds ≡ kindsOf (now s) ⌝ }
-    ensures { λ r. ⌜ r ≡ forget (compare (textsOf (now (s .entry))) (expr (textsOf (now (s .entry))) left) (now (s .entry)) at) ⌝ }
+    ensures { λ r. ⌜ (ops ≡ 5 → r ≡ forget (binary (textsOf (now (s .entry))) (expr (textsOf (now (s .entry))) left) (now (s .entry)) at)) × (ops ≡ 6 → r ≡ forget (compare (textsOf (now (s .entry))) (expr (textsOf (now (s .entry))) left) (now (s .entry)) at)) ⌝ }
 {
-    let a = read_case(s, at, COMPARE_OPS);
+    let a = read_case(s, at, ops);
     let ReadByte::At(_, k) = a else {
         return a.into_read();
     };
@@ -186,6 +175,8 @@ fn read_expr(s: &[u8], kinds: &[u8], at: usize, left: usize) -> Read
     requires { ⌜ now kinds ≡ kindsOf (now s) ⌝ }
     ensures { λ r. ⌜ r ≡ forget (expr (textsOf (now (s .entry))) left (now (s .entry)) at) ⌝ }
 {
+    let s = &s[..]; // pointer and length are loaded one by one, and not waited for as a pair
+    let kinds = &kinds[..];
     let a = read_case(s, at, EXPR_CASES);
     let ReadByte::At(b, k) = a else {
         return a.into_read();
@@ -202,8 +193,7 @@ fn read_expr(s: &[u8], kinds: &[u8], at: usize, left: usize) -> Read
         5 => read_call(s, kinds, k, left - 1),
         6 => read_const(s, k),
         7 => read_neg(s, kinds, k, left - 1),
-        8 => read_binary(s, kinds, k, left - 1),
-        _ => read_compare(s, kinds, k, left - 1),
+        _ => read_pair(s, kinds, k, left - 1, operators(b)),
     }
 }
 

@@ -14,7 +14,7 @@ use reading::texts::read_name;
 ghost use mathlib.Core.Path.{_≡_};
 ghost use Rattle.tree.specs.Read.{caseByte, option, vec};
 ghost use Rattle.tree.specs.Exprs.{name};
-ghost use Rattle.tree.specs.Stmts.{operand, ctrl, pow, modifier, forRange, param, qualifier};
+ghost use Rattle.tree.specs.Stmts.{operand, ctrl, negCtrl, pow, modifier, forRange, param, qualifier};
 ghost use Rattle.reading.specs.Answers.{forget, gaveByte};
 ghost use Rattle.reading.specs.Section.{kindsOf};
 ghost use Rattle.tree.specs.Decode.{textsOf};
@@ -65,7 +65,7 @@ pub fn read_type(s: &[u8], at: usize) -> ReadByte
     read_case(s, at, TYPES)
 }
 
-pub fn read_optional_qualifier(s: &[u8], at: usize) -> Read
+pub(crate) fn read_optional_qualifier(s: &[u8], at: usize) -> Read
     ensures { λ r. ⌜ r ≡ forget (option qualifier (now (s .entry)) at) ⌝ }
 {
     let a = read_case(s, at, FLAGS);
@@ -81,7 +81,7 @@ pub fn read_optional_qualifier(s: &[u8], at: usize) -> Read
 // A modifier with an optional count, `ctrl` or `negctrl`, behind its case byte.
 fn read_ctrl(s: &[u8], kinds: &[u8], at: usize) -> Read
     requires { ⌜ now kinds ≡ kindsOf (now s) ⌝ }
-    ensures { λ r. ⌜ r ≡ forget (ctrl (textsOf (now (s .entry))) (now (s .entry)) at) ⌝ }
+    ensures { λ r. ⌜ (r ≡ forget (ctrl (textsOf (now (s .entry))) (now (s .entry)) at)) × (r ≡ forget (negCtrl (textsOf (now (s .entry))) (now (s .entry)) at)) ⌝ }
 {
     let a = read_optional_held(s, kinds, at);
     let Read::At(k) = a else {

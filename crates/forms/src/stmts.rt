@@ -39,26 +39,11 @@ pub fn read_include(s: &[u8], kinds: &[u8], at: usize) -> Read
     read_span(s, k).into_read()
 }
 
-pub fn read_qubit_decl(s: &[u8], kinds: &[u8], at: usize) -> Read
+// A declaration of qubits or of bits: both have the same fields.
+pub fn read_register(s: &[u8], kinds: &[u8], at: usize) -> Read
     requires { ⌜ now kinds ≡ kindsOf (now s) ⌝ }
     requires { ⌜ at < length (now s) ⌝ }
-    ensures { λ r. ⌜ r ≡ forget (qubitDecl (textsOf (now (s .entry))) at (now (s .entry)) (at + 1)) ⌝ }
-{
-    let a = read_name(s, kinds, at + 1);
-    let ReadText::At(_, k) = a else {
-        return a.into_read();
-    };
-    let b = read_optional_u64(s, k);
-    let Read::At(l) = b else {
-        return b;
-    };
-    read_span(s, l).into_read()
-}
-
-pub fn read_bit_decl(s: &[u8], kinds: &[u8], at: usize) -> Read
-    requires { ⌜ now kinds ≡ kindsOf (now s) ⌝ }
-    requires { ⌜ at < length (now s) ⌝ }
-    ensures { λ r. ⌜ r ≡ forget (bitDecl (textsOf (now (s .entry))) at (now (s .entry)) (at + 1)) ⌝ }
+    ensures { λ r. ⌜ (r ≡ forget (qubitDecl (textsOf (now (s .entry))) at (now (s .entry)) (at + 1))) × (r ≡ forget (bitDecl (textsOf (now (s .entry))) at (now (s .entry)) (at + 1))) ⌝ }
 {
     let a = read_name(s, kinds, at + 1);
     let ReadText::At(_, k) = a else {

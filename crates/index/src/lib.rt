@@ -6,7 +6,7 @@ ghost use Rattle.tree.specs.Texts.{texts};
 ghost use Rattle.tree.specs.Decode.{decode};
 ghost use Rattle.context.specs.View.{TextsAt};
 use accepted::numbers::u16_at;
-use accepted::numbers::wide;
+use text::wide;
 
 // The places of the texts' length bytes, and the place past the texts.
 pub fn place_texts(tree: &[u8], index: &mut [u64]) -> usize

@@ -1,5 +1,5 @@
 // One diagnostic of the listing: its line, and its note's.
-mod pieces;
+pub mod pieces;
 mod plans;
 mod tables;
 

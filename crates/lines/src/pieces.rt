@@ -2,6 +2,7 @@
 use super::Plan;
 use super::tables;
 use span::Span;
+use text::wide;
 ghost use mathlib.Core.Path.{_≡_};
 ghost use Prim.Native.Nat.{_≤_, _<_, _+_};
 ghost use lib.ListN.{length};
@@ -11,12 +12,6 @@ ghost use Rattle.sema.specs.Messages.{nameAt};
 ghost use Rattle.tree.specs.Decode.{textsOf};
 ghost use Rattle.lines.specs.Stored.{Wrote, Said, Before, Shown};
 ghost use Rattle.lines.specs.Plans.{Lent, aName, phrase, rowAt, pieceText, pieceRoom, partText, partRoom, rowRoom, planText, headText, Readable, Named};
-
-fn wide(x: u8) -> usize
-    ensures { λ r. ⌜ (r ≡ x) × (r < 256) ⌝ }
-{
-    x as usize
-}
 
 // A place of the table, as an index.
 fn place(x: u16) -> usize
@@ -37,7 +32,7 @@ fn phrase_of<'a>(wording: &'a [u8], places: &[u16; 97], n: usize) -> &'a [u8]
 }
 
 // The text with a number, as a part of the tree.
-fn name_of<'a>(tree: &'a [u8], index: &[u64], x: usize) -> &'a [u8]
+pub fn name_of<'a>(tree: &'a [u8], index: &[u64], x: usize) -> &'a [u8]
     requires { ⌜ Readable (now tree) (now index) x ⌝ }
     ensures { λ r. ⌜ Shown (now r) (nameAt (textsOf (now (tree .entry))) x) 64 ⌝ }
 {
@@ -86,7 +81,7 @@ fn store(out: &mut [u8], n: usize, s: &[u8])
 }
 
 // Stores a piece from n on, as far as there is room.
-pub fn copy(out: &mut [u8], n: usize, s: &[u8]) -> usize
+pub(crate) fn copy(out: &mut [u8], n: usize, s: &[u8]) -> usize
     requires { ⌜ n + length (now s) < 18446744073709551616 ⌝ }
     ensures { λ r. ⌜ Wrote (now (out .entry)) n (now (out .exit)) r (now (s .entry)) ⌝ }
 {
@@ -119,7 +114,7 @@ fn digits(b: &mut [u8; 24], end: usize, v: u64) -> usize
 }
 
 // Stores a number in decimal.
-pub fn number(out: &mut [u8], n: usize, v: u64) -> usize
+pub(crate) fn number(out: &mut [u8], n: usize, v: u64) -> usize
     requires { ⌜ n < 4294967296 ⌝ }
     ensures { λ r. ⌜ Said (now (out .entry)) n (now (out .exit)) r (decimal v) 20 ⌝ }
 {
@@ -129,7 +124,7 @@ pub fn number(out: &mut [u8], n: usize, v: u64) -> usize
 }
 
 // Stores the head of a line: the letter and the span.
-pub fn head(out: &mut [u8], n: usize, letter: u8, span: Span) -> usize
+pub(crate) fn head(out: &mut [u8], n: usize, letter: u8, span: Span) -> usize
     requires { ⌜ n < 4294967296 ⌝ }
     ensures { λ r. ⌜ Said (now (out .entry)) n (now (out .exit)) r (headText letter span) 24 ⌝ }
 {
@@ -170,7 +165,7 @@ fn write_part<'a>(
 }
 
 // Stores what a plan says, part by part up to the first that is none.
-pub fn write<'a>(
+pub(crate) fn write<'a>(
     out: &mut [u8],
     n: usize,
     tree: &'a [u8],

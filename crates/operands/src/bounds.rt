@@ -9,7 +9,7 @@ ghost use Rattle.context.specs.Values.{numberOf, endsOf, operandOf, symbolOf};
 ghost use Rattle.context.specs.View.{TextsAt};
 ghost use Rattle.lines.specs.Values.{expectedOf, errorWithNoteOf, Fits, Reported};
 ghost use Rattle.promises.specs.Emitted.{Emitted};
-ghost use Rattle.operands.specs.Says.{kindSays, nothing};
+ghost use Rattle.operands.specs.Says.{kindSays, indexFaultSays, sliceFaultSays, nothing};
 use crate::kinds::fits;
 use crate::kinds::indexes_wire;
 use crate::kinds::within;
@@ -70,6 +70,54 @@ pub fn check_kind(
     )
 }
 
+// What is wrong with an index: its symbol has no size, or the index (first) is not below the size.
+enum IndexFault {
+    None,
+    WithoutSize,
+    OutOfBounds(u64, u64),
+}
+
+// The same of a slice: its ends and the size.
+enum SliceFault {
+    None,
+    WithoutSize,
+    OutOfBounds(u64, u64, u64),
+}
+
+fn index_fault(op: GateOperand, symbol: Symbol) -> IndexFault
+    ensures { λ r. ⌜ indexFaultSays (operandOf op) (symbolOf symbol) r ≡ indexSays (operandOf op) (symbolOf symbol) (numberOf (op .index)) (numberOf (symbol .size)) ⌝ }
+{
+    let at = op.index;
+    let Number::Some(i) = at else {
+        return IndexFault::None;
+    };
+    let size = symbol.size;
+    let Number::Some(n) = size else {
+        return IndexFault::WithoutSize;
+    };
+    if i < n {
+        return IndexFault::None;
+    }
+    IndexFault::OutOfBounds(i, n)
+}
+
+fn slice_fault(op: GateOperand, symbol: Symbol) -> SliceFault
+    ensures { λ r. ⌜ sliceFaultSays (operandOf op) (symbolOf symbol) r ≡ sliceSays (operandOf op) (symbolOf symbol) (endsOf (op .slice)) (numberOf (symbol .size)) ⌝ }
+{
+    let slice = op.slice;
+    let Ends::Some(a, b) = slice else {
+        return SliceFault::None;
+    };
+    let size = symbol.size;
+    let Number::Some(n) = size else {
+        return SliceFault::WithoutSize;
+    };
+    if within(a, b, n) {
+        return SliceFault::None;
+    }
+    SliceFault::OutOfBounds(a, b, n)
+}
+
 fn check_index(
     tree: &[u8],
     index: &[u64],
@@ -81,13 +129,9 @@ fn check_index(
     requires { ⌜ TextsAt (now tree) (now index) × (op .name < length (textsOf (now tree))) × SinkFits sink ⌝ }
     ensures { λ r. ⌜ Emitted (textsOf (now (tree .entry))) (indexSays (operandOf op) (symbolOf symbol) (numberOf (op .index)) (numberOf (symbol .size))) sink (now (out .entry)) r (now (out .exit)) ⌝ }
 {
-    let at = op.index;
-    let Number::Some(i) = at else {
-        return sink;
-    };
-    let size = symbol.size;
-    let Number::Some(n) = size else {
-        return report_declared(
+    match index_fault(op, symbol) {
+        IndexFault::None => sink,
+        IndexFault::WithoutSize => report_declared(
             tree,
             index,
             out,
@@ -96,21 +140,18 @@ fn check_index(
             Message::CannotIndex(op.name),
             Note::DeclaredWithoutSize(op.name),
             sink,
-        );
-    };
-    if i < n {
-        return sink;
+        ),
+        IndexFault::OutOfBounds(i, n) => report_declared(
+            tree,
+            index,
+            out,
+            op,
+            symbol,
+            Message::IndexOutOfBounds(i, op.name, n),
+            Note::DeclaredWithSize(op.name, n),
+            sink,
+        ),
     }
-    report_declared(
-        tree,
-        index,
-        out,
-        op,
-        symbol,
-        Message::IndexOutOfBounds(i, op.name, n),
-        Note::DeclaredWithSize(op.name, n),
-        sink,
-    )
 }
 
 fn check_slice(
@@ -124,63 +165,26 @@ fn check_slice(
     requires { ⌜ TextsAt (now tree) (now index) × (op .name < length (textsOf (now tree))) × SinkFits sink ⌝ }
     ensures { λ r. ⌜ Emitted (textsOf (now (tree .entry))) (sliceSays (operandOf op) (symbolOf symbol) (endsOf (op .slice)) (numberOf (symbol .size))) sink (now (out .entry)) r (now (out .exit)) ⌝ }
 {
-    let slice = op.slice;
-    let Ends::Some(a, b) = slice else {
-        return sink;
-    };
-    let size = symbol.size;
-    let Number::Some(n) = size else {
-        return lines::report(
+    match slice_fault(op, symbol) {
+        SliceFault::None => sink,
+        SliceFault::WithoutSize => lines::report(
             out,
             sink,
             tree,
             index,
             error(Message::CannotSlice(op.name), op.span),
-        );
-    };
-    if within(a, b, n) {
-        return sink;
+        ),
+        SliceFault::OutOfBounds(a, b, n) => report_declared(
+            tree,
+            index,
+            out,
+            op,
+            symbol,
+            Message::SliceOutOfBounds(a, b, op.name, n),
+            Note::DeclaredWithSize(op.name, n),
+            sink,
+        ),
     }
-    report_declared(
-        tree,
-        index,
-        out,
-        op,
-        symbol,
-        Message::SliceOutOfBounds(a, b, op.name, n),
-        Note::DeclaredWithSize(op.name, n),
-        sink,
-    )
-}
-
-// Has check_index nothing to say?
-fn keeps_index(op: GateOperand, symbol: Symbol) -> bool
-    ensures { λ r. ⌜ r ≡ nothing (indexSays (operandOf op) (symbolOf symbol) (numberOf (op .index)) (numberOf (symbol .size))) ⌝ }
-{
-    let at = op.index;
-    let Number::Some(i) = at else {
-        return true;
-    };
-    let size = symbol.size;
-    let Number::Some(n) = size else {
-        return false;
-    };
-    i < n
-}
-
-// Has check_slice nothing to say?
-fn keeps_slice(op: GateOperand, symbol: Symbol) -> bool
-    ensures { λ r. ⌜ r ≡ nothing (sliceSays (operandOf op) (symbolOf symbol) (endsOf (op .slice)) (numberOf (symbol .size))) ⌝ }
-{
-    let slice = op.slice;
-    let Ends::Some(a, b) = slice else {
-        return true;
-    };
-    let size = symbol.size;
-    let Number::Some(n) = size else {
-        return false;
-    };
-    within(a, b, n)
 }
 
 // Has check_bounds nothing to say?
@@ -191,10 +195,16 @@ pub fn keeps_bounds(op: GateOperand, symbol: Symbol) -> bool
     if indexes_wire(op, kind) {
         return false;
     }
-    if keeps_index(op, symbol) {
-        return keeps_slice(op, symbol);
+    match index_fault(op, symbol) {
+        IndexFault::None => {}
+        IndexFault::WithoutSize => return false,
+        IndexFault::OutOfBounds(..) => return false,
     }
-    false
+    match slice_fault(op, symbol) {
+        SliceFault::None => true,
+        SliceFault::WithoutSize => false,
+        SliceFault::OutOfBounds(..) => false,
+    }
 }
 
 // A gate qubit must not be indexed; else the bounds of index and slice.

@@ -4,7 +4,6 @@ mod kinds;
 mod uses;
 mod widths;
 
-use accepted::numbers::wide;
 use accepted::operands::operand_at;
 use context::Ends;
 use context::FoundSymbol;
@@ -17,6 +16,7 @@ use lines::Note;
 use lines::error;
 use lines::error_with_note;
 use span::Span;
+use text::wide;
 use widths::Widths;
 ghost use mathlib.Core.Path.{_≡_};
 ghost use mathlib.Core.Bool.{true};

@@ -20,6 +20,8 @@ use Rattle.context.specs.declared.FoundGate.{FoundGate}
 use Rattle.context.specs.declared.GateSig.{GateSig as GateValue}
 use Rattle.context.specs.Sink.{SinkFits}
 use Rattle.context.specs.Values.{foundGateOf}
+use Rattle.sema.specs.Messages.{nameAt}
+use Rattle.lines.specs.Stored.{Shown}
 use Rattle.lines.specs.declared.Severity.{Severity}
 use Rattle.lines.specs.declared.Message.{Message}
 use Rattle.lines.specs.declared.Secondary.{Secondary}
@@ -74,9 +76,10 @@ module _ {t : List Text} (c : Call) (n : ℕ) (decl : Secondary) {s : Sink} {o :
         (ap (λ (k : ℕ). unless (eqb (c .args) (n + c .controls)) (noted (Messages.gateQubits (c .name) k (c .args)) (c .span) (secondaryOf decl))) (add-comm (c .controls) n))
 
 -- a standard gate, or none
-module _ (t : List Text) (c : Call) {text : List ℕ} (e : text ≡ getD t (c .name) []) {f : Signature} (g : f ≡ signatureOf (map lower text)) where
+module _ (t : List Text) (c : Call) {text : List ℕ} (e : Shown text (nameAt t (c .name)) 64) {f : Signature} (g : f ≡ signatureOf (map lower text)) where
   signature-is : f ≡ signatureOf (map lower (getD t (c .name) []))
-  signature-is = g ∙ ap (λ x. signatureOf (map lower x)) e
+  unfolding nameAt
+  signature-is = g ∙ ap (λ x. signatureOf (map lower x)) (e .shows)
 
   pub standard-some : {s : Sink} {o : List ℕ} {r : Sink} {o′ : List ℕ} (p q : ℕ) → f ≡ Signature.Standard p q → Emitted t (arityBy c p q none) s o r o′ → Emitted t (standardOf t c) s o r o′
   unfolding standardBy

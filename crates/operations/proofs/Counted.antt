@@ -1,8 +1,8 @@
 -- The parts of a gate call as they are read: how many they are, and where they stand. Assumes nothing.
-use Prim.Native.Nat.{ℕ, _+_, _<_}
+use Prim.Native.Nat.{ℕ, _+_}
 use mathlib.Core.Path.{_≡_, refl, sym, ap, _∙_}
-use mathlib.Core.List.{List, []}
-use lib.ListN.{length, getD}
+use mathlib.Core.List.{List}
+use lib.ListN.{getD}
 use Rattle.span.specs.declared.Span.{Span}
 use Rattle.ast.specs.Tree.{Text, noExpr, moreExpr, exprCount}
 use Rattle.tree.specs.Ans.{IsOk, nextOf}
@@ -10,9 +10,7 @@ use Rattle.tree.specs.Read.{vec}
 use Rattle.tree.specs.Exprs.{exprs}
 use Rattle.tree.specs.Stmts.{held, modifier, operand, stmt}
 use Rattle.sema.specs.Constants.{controls, or0}
-use Rattle.context.specs.View.{numberAt, spanAt, TextsAt, textPlace}
-use Rattle.tree.specs.Decode.{textsOf}
-use Rattle.text.specs.Text.{part}
+use Rattle.context.specs.View.{numberAt, spanAt}
 use Rattle.accepted.specs.Cases.{blank, blankOperand}
 use Rattle.accepted.specs.Parts.{valueOr}
 use Rattle.accepted.specs.Counts.{counted-size, vec-size}
@@ -57,7 +55,3 @@ module _ (t : List Text) (left : ℕ) (s : List ℕ) (at : ℕ) (h : IsOk (stmt 
         args = j ∙ sym (vec-size blankOperand (operand t) s m ops);
         controls = k ∙ ap or0 (total-of _ c ms p);
       }
-
--- the text of a name
-pub text-read : {tree index : List ℕ} (x : ℕ) {here size : ℕ} {r : List ℕ} → TextsAt tree index → x < length (textsOf tree) → here ≡ textPlace index x → size ≡ getD tree here 0 → r ≡ part (here + 1) (here + 1 + size) tree → r ≡ getD (textsOf tree) x []
-text-read x p l e f g = g ∙ rw (f, e) (p .each x l .same)

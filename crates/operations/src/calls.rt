@@ -27,7 +27,6 @@ ghost use Rattle.operations.specs.Calls.{CallOf, paramsBy, qubitsBy, ari
 use accepted::exprs::skip_exprs;
 use accepted::numbers::span_at;
 use accepted::numbers::u16_at;
-use accepted::numbers::wide;
 use accepted::parts::skip_operands;
 use constants::Total;
 use context::FoundGate;
@@ -38,7 +37,9 @@ use lines::Message;
 use lines::Note;
 use lines::Secondary;
 use lines::Severity;
+use lines::pieces::name_of;
 use span::Span;
+use text::wide;
 
 // What a gate call is made of: its name, the numbers of its parameters, arguments and controls, the places of the Vecs, its end and span.
 pub struct Call {
@@ -201,23 +202,13 @@ fn check_arity(
     report_arity(tree, index, out, call, params, qubits, decl, sink)
 }
 
-// The text with a number, as a part of the tree.
-fn text_of<'a>(tree: &'a [u8], index: &[u64], x: usize) -> &'a [u8]
-    requires { ⌜ TextsAt (now tree) (now index) × (x < length (textsOf (now tree))) ⌝ }
-    ensures { λ r. ⌜ now r ≡ getD (textsOf (now (tree .entry))) x [] ⌝ }
-{
-    let at = index[x] as usize;
-    let n = wide(tree[at]);
-    &tree[at + 1..at + 1 + n]
-}
-
 // A gate that the program does not define: a standard gate, or none.
 fn check_standard(tree: &[u8], index: &[u64], out: &mut [u8], call: Call, sink: Sink) -> Sink
     requires { ⌜ TextsAt (now tree) (now index) × (call .name < length (textsOf (now tree))) × SinkFits sink ⌝ }
     ensures { λ r. ⌜ Emitted (textsOf (now (tree .entry))) (standardOf (textsOf (now (tree .entry))) call) sink (now (out .entry)) r (now (out .exit)) ⌝ }
 {
     let name = call.name;
-    let standard = gates::standard_gate_signature(text_of(tree, index, name));
+    let standard = gates::standard_gate_signature(name_of(tree, index, name));
     match standard {
         Signature::Standard { params, qubits } => check_arity(
             tree,

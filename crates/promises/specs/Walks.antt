@@ -50,12 +50,15 @@ pub record Passable (tree index scratch : List ℕ) (sink : Sink) : Type 0 where
   pub few : FewParams (functionsOf scratch)
   pub fits : SinkFits sink
 
--- every key that the statement's measure statements set is in the table; so of the statements of a body
-pub record StmtKeyed (ks : List Key) (ss : Symbols) (x : Ans Stmt) : Type 0 where
-  pub each : (s : Stmt) (n : ℕ) → x ≡ ok s n → (k : Key) → SetsStmt s ss k → hasKey ks k ≡ true
+-- every key that is set by what was read is in the table: of a statement, of the statements of a body
+pub record Keyed {A : Type 0} (sets : A → Symbols → Key → Type 0) (ks : List Key) (ss : Symbols) (x : Ans A) : Type 0 where
+  pub each : (v : A) (n : ℕ) → x ≡ ok v n → (k : Key) → sets v ss k → hasKey ks k ≡ true
 
-pub record BodyKeyed (ks : List Key) (ss : Symbols) (x : Ans Stmts) : Type 0 where
-  pub each : (b : Stmts) (n : ℕ) → x ≡ ok b n → (k : Key) → Sets b ss k → hasKey ks k ≡ true
+abbrev pub StmtKeyed : List Key → Symbols → Ans Stmt → Type 0
+StmtKeyed = Keyed SetsStmt
+
+abbrev pub BodyKeyed : List Key → Symbols → Ans Stmts → Type 0
+BodyKeyed = Keyed Sets
 
 -- what the analysis makes of the statement, or of the statements of a body, that was read
 abbrev pub Walk : Type 0

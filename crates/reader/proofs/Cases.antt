@@ -1,47 +1,37 @@
 -- The cases of statements, and bodies: a law for each way out of the code. Assumes nothing.
-use Prim.Native.Nat.{ℕ, zero, suc, _+_, _-_}
-use mathlib.Core.Path.{_≡_, refl, sym, ap, _∙_}
+use Prim.Native.Nat.{ℕ, _+_, _-_}
+use mathlib.Core.Path.{_≡_, refl}
 use mathlib.Core.List.{List}
 use native.Mathlib.Omega.{arith}
-use native.Mathlib.Numerals.{sub-one}
 use lib.ListN.{getD}
 use Rattle.ast.specs.Tree.{Text, Stmt, noStmt, moreStmt}
 use Rattle.tree.specs.Ans.{Reader, bind, _>>=_, refuse}
 use Rattle.tree.specs.Read.{number, caseByte, option, repeat}
 use Rattle.tree.specs.Stmts.{body, elseBody, include, qubitDecl, bitDecl, classicalDecl, assignment, gateCall, gateDef, functionDef, measure, reset, barrier, delay, branch, forLoop, whileLoop, stmtCases, stmt}
+use Rattle.tree.specs.Levels.{stmt-levels}
 use Rattle.reading.specs.Answers.{forget, gaveByte, gaveNumber, byteAnswer, numberAnswer}
 use Rattle.reading.specs.declared.answers.Read.{Read}
 use Rattle.reading.specs.declared.answers.Read.the-variants.{At, Refused}
 use Rattle.reading.specs.declared.answers.ReadByte.{ReadByte}
 use Rattle.reading.specs.declared.answers.ReadNumber.{ReadNumber}
-use Rattle.reading.proofs.Taken.{number-left, number-refused, number-ok}
+use Rattle.reading.proofs.Taken.{taken-ok, taken-left, taken-refused, numberKind}
 use Rattle.reading.proofs.Runs.{skip, runs-last, then, end, by}
-use Rattle.reading.proofs.Values.{bind-refused, case-below, case-next, choice-refused, choice-read}
+use Rattle.reading.proofs.Values.{bind-refused, case-below, case-next}
+use Rattle.reading.proofs.Levels.{level-refused, level-over, level-arm}
 use Rattle.forms.proofs.Cases.{up, last}
 
 -- statements
 module _ (t : List Text) (left : ℕ) (s : List ℕ) (at : ℕ) (a : ReadByte) (read : a ≡ gaveByte (caseByte 15 s at)) where
   pub stmt-refused : (m p : ℕ) → a ≡ ReadByte.Refused m p → (r : Read) → r ≡ forget (byteAnswer a) → r ≡ forget (stmt t left s at)
-  unfolding stmt
-  stmt-refused m p g r h = go left
-    where
-      go : (left : ℕ) → r ≡ forget (stmt t left s at)
-      go zero = choice-refused 15 _ s at a read m p g r h
-      go (suc left) = choice-refused 15 _ s at a read m p g r h
+  stmt-refused = level-refused (stmt-levels t) left s at a read
 
   module _ (b k : ℕ) (g : a ≡ ReadByte.At b k) where
     pub stmt-over : left ≡ 0 → Refused 6 at ≡ forget (stmt t left s at)
-    unfolding stmt refuse forget
-    stmt-over z = rw z (sym (ap forget (choice-read 15 _ s at a read b k g)))
+    stmt-over = level-over (stmt-levels t) left s at a read b k g
 
     module _ (deep : left ≡ 0 → ⊥) (r : Read) where
       stmt-arm : (c : ℕ) → b ≡ c → r ≡ forget (getD (stmtCases t (stmt t (left - 1)) at) c (refuse 4 at) s (at + 1)) → r ≡ forget (stmt t left s at)
-      unfolding stmt
-      stmt-arm c e h = go left deep h
-        where
-          go : (left : ℕ) → (left ≡ 0 → ⊥) → r ≡ forget (getD (stmtCases t (stmt t (left - 1)) at) c (refuse 4 at) s (at + 1)) → r ≡ forget (stmt t left s at)
-          go zero d h = absurd (d refl)
-          go (suc left) d h = rw sub-one at h ∙ sym (ap forget (choice-read 15 _ s at a read c (at + 1) (rw (e, case-next s at 15 a read b k g) at g)))
+      stmt-arm c e h = level-arm (stmt-levels t) left s at a read b k g deep r c e (rw (case-next s at 15 a read b k g) h)
 
       pub case-include : b ≡ 0 → r ≡ forget (include t at s (at + 1)) → r ≡ forget (stmt t left s at)
       unfolding stmtCases
@@ -114,10 +104,10 @@ module _ (inner : Reader Stmt) (s : List ℕ) (at : ℕ) (r : Read) where
 module _ (inner : Reader Stmt) (s : List ℕ) (at : ℕ) (a : ReadNumber) (read : a ≡ gaveNumber (number 2 s at)) where
   pub body-refused : (m p : ℕ) → a ≡ ReadNumber.Refused m p → (r : Read) → r ≡ forget (numberAnswer a) → r ≡ forget (body inner s at)
   unfolding body _>>=_
-  body-refused m p g r h = bind-refused _ _ r m p (number-left a (number 2 s at) read r h) (number-refused a m p g r h)
+  body-refused m p g r h = bind-refused _ _ r m p (taken-left numberKind a (number 2 s at) read r h) (taken-refused numberKind a m p g r h)
 
   pub body-start : (n k : ℕ) → a ≡ ReadNumber.At n k → forget (body inner s at) ≡ forget (repeat noStmt moreStmt inner n s k)
   unfolding body _>>=_ bind
-  body-start n k g = rw (number-ok a (number 2 s at) read n k g)
+  body-start n k g = rw (taken-ok numberKind a (number 2 s at) read n k g)
 
 pub ruleset bodies = (body-refused, body-start)

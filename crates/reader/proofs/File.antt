@@ -18,7 +18,7 @@ use Rattle.reading.specs.declared.answers.Read.{Read}
 use Rattle.reading.specs.declared.answers.Read.the-variants.{At, Refused}
 use Rattle.reading.specs.declared.answers.ReadNumber.{ReadNumber}
 use Rattle.reader.specs.declared.Validated.the-variants.{Accepted, Refused as ValidatedRefused}
-use Rattle.reading.proofs.Taken.{number-ok, number-left, number-refused}
+use Rattle.reading.proofs.Taken.{taken-ok, taken-left, taken-refused, numberKind}
 use Rattle.reading.proofs.Values.{not-both, bind-refused}
 use Rattle.reading.proofs.Gathered.{texts-from, count-few}
 
@@ -45,7 +45,7 @@ pub ruleset validating = (validated-at, validated-refused)
 -- the count, and the kinds of so many texts
 module _ (s : List ℕ) (a : ReadNumber) (read : a ≡ gaveNumber (textCount s 0)) (count first n : ℕ) (g : a ≡ ReadNumber.At count first) (e : n ≡ count) where
   pub count-is : textCount s 0 ≡ ok n first
-  count-is = rw e (number-ok a (textCount s 0) read count first g)
+  count-is = rw e (taken-ok numberKind a (textCount s 0) read count first g)
 
   module _ (kinds : List ℕ) (b : Read) (gathered : Gathered s kinds n b) where
     pub kinds-long : n ≤ length kinds
@@ -76,7 +76,7 @@ module _ (s : List ℕ) (few : length s ≤ fileLimit) where
 
   pub file-count : (a : ReadNumber) (m p : ℕ) → a ≡ gaveNumber (textCount s 0) → a ≡ ReadNumber.Refused m p → (r : Read) → r ≡ forget (numberAnswer a) → r ≡ forget (decode s)
   file-count a m p e g r h =
-      file-stops r m p (rw texts-from (bind-refused _ _ r m p (number-left a (textCount s 0) e r h) (number-refused a m p g r h))) (number-refused a m p g r h)
+      file-stops r m p (rw texts-from (bind-refused _ _ r m p (taken-left numberKind a (textCount s 0) e r h) (taken-refused numberKind a m p g r h))) (taken-refused numberKind a m p g r h)
 
   module _ (kinds : List ℕ) (n : ℕ) (a : Read) (gathered : Gathered s kinds n a) where
     pub file-texts : (m p : ℕ) → a ≡ Refused m p → a ≡ forget (decode s)

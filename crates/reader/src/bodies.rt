@@ -121,8 +121,8 @@ fn read_stmt(s: &[u8], kinds: &[u8], at: usize, left: usize) -> Read
     }
     match b {
         0 => stmts::read_include(s, kinds, at),
-        1 => stmts::read_qubit_decl(s, kinds, at),
-        2 => stmts::read_bit_decl(s, kinds, at),
+        1 => stmts::read_register(s, kinds, at),
+        2 => stmts::read_register(s, kinds, at),
         3 => stmts::read_classical_decl(s, kinds, at),
         4 => stmts::read_assignment(s, kinds, at),
         5 => stmts::read_gate_call(s, kinds, at),

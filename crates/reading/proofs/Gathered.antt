@@ -23,7 +23,7 @@ use Rattle.tree.specs.Decode.{textsOf}
 use Rattle.reading.specs.declared.answers.Read.{Read}
 use Rattle.reading.specs.declared.answers.Read.the-variants.{At, Refused}
 use Rattle.reading.specs.declared.answers.ReadNumber.{ReadNumber}
-use Rattle.reading.proofs.Taken.{number-ok, number-not}
+use Rattle.reading.proofs.Taken.{taken-ok, taken-not, numberKind}
 use Rattle.text.proofs.Order.{le-or-lt}
 use Rattle.reading.proofs.Values.{not-both, bind-refused, bind-into}
 use Rattle.reading.proofs.Section.{Judged, bytes-judged, text-part, empty-is, long-is, cut-is, whole-is, text-after}
@@ -79,16 +79,16 @@ module _ (s : List ℕ) (at : ℕ) (r : Read) (next : ℕ) (read : r ≡ forget 
 module _ (s : List ℕ) (a : ReadNumber) (read : a ≡ gaveNumber (number 2 s 0)) where
   pub count-short : (m p : ℕ) → a ≡ ReadNumber.Refused m p → a ≡ gaveNumber (textCount s 0)
   unfolding textCount here _>>=_ bind gaveNumber
-  count-short m p g = g ∙ rw (number-not a (number 2 s 0) read m p g)
+  count-short m p g = g ∙ rw (taken-not numberKind a (number 2 s 0) read m p g)
 
   module _ (n k m : ℕ) (g : a ≡ ReadNumber.At n k) (e : m ≡ n) where
     pub count-over : textsLimit < m → ReadNumber.Refused 5 0 ≡ gaveNumber (textCount s 0)
     unfolding textCount here check refuse _>>=_ _>>_ bind gaveNumber
-    count-over h = rw (number-ok a (number 2 s 0) read n k g, lt-leb n textsLimit (rw e at h))
+    count-over h = rw (taken-ok numberKind a (number 2 s 0) read n k g, lt-leb n textsLimit (rw e at h))
 
     pub count-read : m ≤ textsLimit → ReadNumber.At n k ≡ gaveNumber (textCount s 0)
     unfolding textCount here check done _>>=_ _>>_ bind gaveNumber
-    count-read h = rw (number-ok a (number 2 s 0) read n k g, le-leb n textsLimit (rw e at h))
+    count-read h = rw (taken-ok numberKind a (number 2 s 0) read n k g, le-leb n textsLimit (rw e at h))
 
 pub ruleset text-counts = (count-short, count-over, count-read)
 

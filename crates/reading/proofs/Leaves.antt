@@ -16,7 +16,7 @@ use Rattle.tree.specs.Read.{byte, number, span, caseByte, count}
 use Rattle.text.proofs.Order.{le-or-lt}
 use Rattle.text.proofs.Clamp.{none-of}
 use Rattle.tree.proofs.Steps.{byte-in, byte-end, number-in, number-end}
-use Rattle.reading.proofs.Taken.{byte-ok, byte-not}
+use Rattle.reading.proofs.Taken.{taken-ok, taken-not, byteKind}
 use Rattle.reading.specs.Answers.{gaveByte, gaveNumber, gaveSpan}
 use Rattle.reading.specs.declared.answers.ReadByte.{ReadByte}
 use Rattle.reading.specs.declared.answers.ReadNumber.{ReadNumber}
@@ -92,28 +92,28 @@ module _ (s : List ℕ) (at : ℕ) where
   module _ (a : ReadByte) (read : a ≡ gaveByte (byte s at)) where
     pub case-refused : (cases m p : ℕ) → a ≡ ReadByte.Refused m p → a ≡ gaveByte (caseByte cases s at)
     unfolding caseByte here _>>=_ bind gaveByte
-    case-refused cases m p g = g ∙ rw (byte-not a (byte s at) read m p g)
+    case-refused cases m p g = g ∙ rw (taken-not byteKind a (byte s at) read m p g)
 
     pub count-refused : (m p : ℕ) → a ≡ ReadByte.Refused m p → a ≡ gaveByte (count s at)
     unfolding count here _>>=_ bind gaveByte
-    count-refused m p g = g ∙ rw (byte-not a (byte s at) read m p g)
+    count-refused m p g = g ∙ rw (taken-not byteKind a (byte s at) read m p g)
 
     module _ (b k : ℕ) (g : a ≡ ReadByte.At b k) where
       pub case-read : (cases : ℕ) → b < cases → ReadByte.At b k ≡ gaveByte (caseByte cases s at)
       unfolding caseByte here check done _>>=_ _>>_ bind gaveByte
-      case-read cases h = rw (byte-ok a (byte s at) read b k g, lt-ltb b cases h)
+      case-read cases h = rw (taken-ok byteKind a (byte s at) read b k g, lt-ltb b cases h)
 
       pub case-other : (cases : ℕ) → cases ≤ b → ReadByte.Refused 4 at ≡ gaveByte (caseByte cases s at)
       unfolding caseByte here check refuse _>>=_ _>>_ bind gaveByte
-      case-other cases h = rw (byte-ok a (byte s at) read b k g, le-ltb b cases h)
+      case-other cases h = rw (taken-ok byteKind a (byte s at) read b k g, le-ltb b cases h)
 
       pub count-read : b ≤ vecLimit → ReadByte.At b k ≡ gaveByte (count s at)
       unfolding count here check done _>>=_ _>>_ bind gaveByte
-      count-read h = rw (byte-ok a (byte s at) read b k g, le-leb b vecLimit h)
+      count-read h = rw (taken-ok byteKind a (byte s at) read b k g, le-leb b vecLimit h)
 
       pub count-over : vecLimit < b → ReadByte.Refused 5 at ≡ gaveByte (count s at)
       unfolding count here check refuse _>>=_ _>>_ bind gaveByte
-      count-over h = rw (byte-ok a (byte s at) read b k g, lt-leb b vecLimit h)
+      count-over h = rw (taken-ok byteKind a (byte s at) read b k g, lt-leb b vecLimit h)
 
   -- `left` bytes are there
   module _ (left : ℕ) (e : left ≡ length s - at) where

@@ -2,6 +2,7 @@ pub mod Taken
 pub mod Leaves
 pub mod Runs
 pub mod Values
+pub mod Levels
 pub mod Spelled
 pub mod Section
 pub mod Repeated

@@ -19,7 +19,7 @@ use Rattle.reading.specs.Section.{kindBy, kindOf, ofKind, kindsOf}
 use Rattle.tree.specs.Decode.{textsOf}
 use Rattle.reading.specs.declared.answers.ReadNumber.{ReadNumber}
 use Rattle.reading.specs.declared.answers.ReadText.{ReadText}
-use Rattle.reading.proofs.Taken.{number-same, text-ok, text-not}
+use Rattle.reading.proofs.Taken.{back-gave, taken-ok, taken-not, numberKind, textKind}
 use Rattle.text.proofs.Order.{le-or-lt}
 use Rattle.reading.proofs.Values.{bind-into}
 use Rattle.reading.proofs.Spelled.{letter-below}
@@ -52,26 +52,26 @@ module _ (s kinds : List ℕ) (known : kinds ≡ kindsOf s) where
   -- any text
   module _ (at : ℕ) (y : ReadNumber) (u : y ≡ gaveNumber (number 2 s at)) (a : ReadText) (read : a ≡ gaveText (numberAnswer y)) where
     as-text : a ≡ gaveText (number 2 s at)
-    as-text = read ∙ ap gaveText (ap numberAnswer u ∙ number-same (number 2 s at))
+    as-text = read ∙ ap gaveText (ap numberAnswer u ∙ back-gave numberKind (number 2 s at))
 
     pub path-refused : (m p : ℕ) → a ≡ ReadText.Refused m p → a ≡ gaveText (textNumber (textsOf s) isPath s at)
     unfolding textNumber here _>>=_ bind gaveText
-    path-refused m p g = g ∙ rw (text-not a (number 2 s at) as-text m p g)
+    path-refused m p g = g ∙ rw (taken-not textKind a (number 2 s at) as-text m p g)
 
     module _ (n k : ℕ) (g : a ≡ ReadText.At n k) where
       pub path-far : length kinds ≤ n → ReadText.Refused 4 at ≡ gaveText (textNumber (textsOf s) isPath s at)
       unfolding textNumber here check refuse _>>=_ _>>_ bind gaveText
-      path-far h = rw (text-ok a (number 2 s at) as-text n k g, le-ltb n (length (textsOf s)) (omega (arith, count-known)))
+      path-far h = rw (taken-ok textKind a (number 2 s at) as-text n k g, le-ltb n (length (textsOf s)) (omega (arith, count-known)))
 
       pub path-read : n < length kinds → ReadText.At n k ≡ gaveText (textNumber (textsOf s) isPath s at)
       unfolding textNumber isPath here check done _>>=_ _>>_ bind gaveText
-      path-read h = rw (text-ok a (number 2 s at) as-text n k g, lt-ltb n (length (textsOf s)) (omega (arith, count-known)))
+      path-read h = rw (taken-ok textKind a (number 2 s at) as-text n k g, lt-ltb n (length (textsOf s)) (omega (arith, count-known)))
 
   -- a text of a kind
   module _ (at : ℕ) (a : ReadText) (read : a ≡ gaveText (textNumber (textsOf s) isPath s at)) (kind : ℕ) where
     pub spelled-refused : (m p : ℕ) → a ≡ ReadText.Refused m p → a ≡ gaveText (textNumber (textsOf s) (ofKind kind) s at)
     unfolding bind gaveText
-    spelled-refused m p g = g ∙ rw (spelled-after (textsOf s) s at (ofKind kind), text-not a (textNumber (textsOf s) isPath s at) read m p g)
+    spelled-refused m p g = g ∙ rw (spelled-after (textsOf s) s at (ofKind kind), taken-not textKind a (textNumber (textsOf s) isPath s at) read m p g)
 
     module _ (n k : ℕ) (g : a ≡ ReadText.At n k) where
       kind-known : getD kinds n 0 ≡ kindOf (getD (textsOf s) n [])
@@ -80,17 +80,17 @@ module _ (s kinds : List ℕ) (known : kinds ≡ kindsOf s) where
 
       pub spelled-read : getD kinds n 0 ≡ kind → ReadText.At n k ≡ gaveText (textNumber (textsOf s) (ofKind kind) s at)
       unfolding ofKind check done _>>_ bind gaveText
-      spelled-read e = rw (spelled-after (textsOf s) s at (ofKind kind), text-ok a (textNumber (textsOf s) isPath s at) read n k g, eq-eqb (kindOf (getD (textsOf s) n [])) kind (sym kind-known ∙ e))
+      spelled-read e = rw (spelled-after (textsOf s) s at (ofKind kind), taken-ok textKind a (textNumber (textsOf s) isPath s at) read n k g, eq-eqb (kindOf (getD (textsOf s) n [])) kind (sym kind-known ∙ e))
 
       pub spelled-other : (getD kinds n 0 ≡ kind → ⊥) → ReadText.Refused 4 at ≡ gaveText (textNumber (textsOf s) (ofKind kind) s at)
       unfolding ofKind check refuse _>>_ bind gaveText
-      spelled-other e = rw (spelled-after (textsOf s) s at (ofKind kind), text-ok a (textNumber (textsOf s) isPath s at) read n k g, ne-eqb (kindOf (getD (textsOf s) n [])) kind (λ f. e (kind-known ∙ f)))
+      spelled-other e = rw (spelled-after (textsOf s) s at (ofKind kind), taken-ok textKind a (textNumber (textsOf s) isPath s at) read n k g, ne-eqb (kindOf (getD (textsOf s) n [])) kind (λ f. e (kind-known ∙ f)))
 
   -- a text number that was read is below the number of texts
   module _ (at : ℕ) (a : ReadText) (read : a ≡ gaveText (textNumber (textsOf s) isPath s at)) (n k : ℕ) (g : a ≡ ReadText.At n k) where
     pub path-near : n < length kinds
     unfolding textNumber isPath here check done refuse _>>=_ _>>_ bind
-    path-near = rw count-known (go (number 2 s at) (text-ok a (textNumber (textsOf s) isPath s at) read n k g))
+    path-near = rw count-known (go (number 2 s at) (taken-ok textKind a (textNumber (textsOf s) isPath s at) read n k g))
       where
         near : (m next : ℕ) → (length (textsOf s) ≤ m) ⊎ (m < length (textsOf s)) → judged (textsOf s) isPath at s m next ≡ ok n k → n < length (textsOf s)
         near m next (inl h) e = absurd (never-ok {number = 4} {place = at} e (rw (le-ltb m (length (textsOf s)) h)))

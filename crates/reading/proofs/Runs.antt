@@ -4,15 +4,10 @@ use Prim.Native.Nat.{ℕ}
 use mathlib.Core.Path.{_≡_, refl, sym, _∙_}
 use mathlib.Core.List.{List, [], _∷_}
 use Rattle.tree.specs.Ans.{Ans, ok, refused, Reader, bind, _>>=_, done}
-use Rattle.tree.specs.Read.{span}
-use Rattle.reading.specs.Answers.{forget, gaveByte, gaveNumber, gaveText, gaveSpan, byteAnswer, numberAnswer, textAnswer, spanAnswer}
+use Rattle.reading.specs.Answers.{forget}
 use Rattle.reading.specs.declared.answers.Read.{Read}
 use Rattle.reading.specs.declared.answers.Read.the-variants.{At, Refused}
-use Rattle.reading.specs.declared.answers.ReadByte.{ReadByte}
-use Rattle.reading.specs.declared.answers.ReadNumber.{ReadNumber}
-use Rattle.reading.specs.declared.answers.ReadText.{ReadText}
-use Rattle.reading.specs.declared.answers.ReadSpan.{ReadSpan}
-use Rattle.reading.proofs.Taken.{byte-left, byte-refused, byte-at, number-left, number-refused, number-at, text-left, text-refused, text-at, span-left}
+use Rattle.reading.proofs.Taken.{Kind, taken-refused, taken-left, taken-at, byteKind, numberKind, textKind, spanKind}
 
 abbrev pub Skip : Type 0
 Skip = List ℕ → ℕ → Read
@@ -47,34 +42,52 @@ module _ (p : Skip) (s : List ℕ) (at : ℕ) where
   runs-more ps a r k e h g = rw (sym e, h) g
 
 -- the same where the read answers its value too
-module _ (p : Reader ℕ) (s : List ℕ) (at : ℕ) (ps : List Skip) (r : Read) where
-  pub byte-stops : (a : ReadByte) (m q : ℕ) → a ≡ gaveByte (p s at) → a ≡ ReadByte.Refused m q → r ≡ forget (byteAnswer a) → r ≡ runs (skip p ∷ ps) s at
-  byte-stops a m q e g h = runs-refused (skip p) s at ps r m q (byte-left a (p s at) e r h) (byte-refused a m q g r h)
+module _ {A E : Type 0} (K : Kind A E) where
+  abbrev Stops : Type 0
+  Stops = (p : Reader A) (s : List ℕ) (at : ℕ) (ps : List Skip) (r : Read) (a : E) (m q : ℕ) → a ≡ K .gave (p s at) → a ≡ K .Refused m q → r ≡ forget (K .back a) → r ≡ runs (skip p ∷ ps) s at
 
-  pub byte-more : (a : ReadByte) (v k : ℕ) → a ≡ gaveByte (p s at) → a ≡ ReadByte.At v k → r ≡ runs ps s k → r ≡ runs (skip p ∷ ps) s at
-  byte-more a v k e g h = runs-more (skip p) s at ps (forget (p s at)) r k refl (byte-at a (p s at) e v k g) h
+  stops : Stops
+  stops p s at ps r a m q e g h = runs-refused (skip p) s at ps r m q (taken-left K a (p s at) e r h) (taken-refused K a m q g r h)
 
-  pub number-stops : (a : ReadNumber) (m q : ℕ) → a ≡ gaveNumber (p s at) → a ≡ ReadNumber.Refused m q → r ≡ forget (numberAnswer a) → r ≡ runs (skip p ∷ ps) s at
-  number-stops a m q e g h = runs-refused (skip p) s at ps r m q (number-left a (p s at) e r h) (number-refused a m q g r h)
+  abbrev More : Type 0
+  More = (p : Reader A) (s : List ℕ) (at : ℕ) (ps : List Skip) (r : Read) (a : E) (v : A) (k : ℕ) → a ≡ K .gave (p s at) → a ≡ K .At v k → r ≡ runs ps s k → r ≡ runs (skip p ∷ ps) s at
 
-  pub number-more : (a : ReadNumber) (v k : ℕ) → a ≡ gaveNumber (p s at) → a ≡ ReadNumber.At v k → r ≡ runs ps s k → r ≡ runs (skip p ∷ ps) s at
-  number-more a v k e g h = runs-more (skip p) s at ps (forget (p s at)) r k refl (number-at a (p s at) e v k g) h
+  more : More
+  more p s at ps r a v k e g h = runs-more (skip p) s at ps (forget (p s at)) r k refl (taken-at K a (p s at) e v k g) h
 
-  pub text-stops : (a : ReadText) (m q : ℕ) → a ≡ gaveText (p s at) → a ≡ ReadText.Refused m q → r ≡ forget (textAnswer a) → r ≡ runs (skip p ∷ ps) s at
-  text-stops a m q e g h = runs-refused (skip p) s at ps r m q (text-left a (p s at) e r h) (text-refused a m q g r h)
+  abbrev Last : Type 0
+  Last = (p : Reader A) (s : List ℕ) (at : ℕ) (r : Read) (a : E) → a ≡ K .gave (p s at) → r ≡ forget (K .back a) → r ≡ runs (skip p ∷ []) s at
 
-  pub text-more : (a : ReadText) (v k : ℕ) → a ≡ gaveText (p s at) → a ≡ ReadText.At v k → r ≡ runs ps s k → r ≡ runs (skip p ∷ ps) s at
-  text-more a v k e g h = runs-more (skip p) s at ps (forget (p s at)) r k refl (text-at a (p s at) e v k g) h
+  last : Last
+  last p s at r a e h = runs-last (skip p) s at r (taken-left K a (p s at) e r h)
 
-module _ (p : Reader ℕ) (s : List ℕ) (at : ℕ) (r : Read) where
-  pub number-last : (a : ReadNumber) → a ≡ gaveNumber (p s at) → r ≡ forget (numberAnswer a) → r ≡ runs (skip p ∷ []) s at
-  number-last a e h = runs-last (skip p) s at r (number-left a (p s at) e r h)
+-- for each kind that `search` meets
+pub byte-stops : Stops byteKind
+byte-stops = stops byteKind
 
-  pub text-last : (a : ReadText) → a ≡ gaveText (p s at) → r ≡ forget (textAnswer a) → r ≡ runs (skip p ∷ []) s at
-  text-last a e h = runs-last (skip p) s at r (text-left a (p s at) e r h)
+pub byte-more : More byteKind
+byte-more = more byteKind
 
-pub span-last : (s : List ℕ) (at : ℕ) (r : Read) (a : ReadSpan) → a ≡ gaveSpan (span s at) → r ≡ forget (spanAnswer a) → r ≡ runs (skip span ∷ []) s at
-span-last s at r a e h = runs-last (skip span) s at r (span-left a (span s at) e r h)
+pub number-stops : Stops numberKind
+number-stops = stops numberKind
+
+pub number-more : More numberKind
+number-more = more numberKind
+
+pub number-last : Last numberKind
+number-last = last numberKind
+
+pub text-stops : Stops textKind
+text-stops = stops textKind
+
+pub text-more : More textKind
+text-more = more textKind
+
+pub text-last : Last textKind
+text-last = last textKind
+
+pub span-last : Last spanKind
+span-last = last spanKind
 
 -- the ways out of a run where a read is refused, and where all are made
 pub ruleset runs-stop = (runs-refused, runs-more, byte-stops, byte-more, number-stops, number-more, text-stops, text-more)
@@ -94,6 +107,26 @@ then {A} {B} p f q ps s at e g = rw (sym e) (go (p s at))
 pub end : {A : Type 0} (a : A) (s : List ℕ) (at : ℕ) → forget (done a s at) ≡ runs [] s at
 unfolding done forget runs
 end a s at = refl
+
+-- a `do` block of one to five parts
+pub one : {A Z : Type 0} (p : Reader A) (make : A → Z) (s : List ℕ) (at : ℕ) → forget (_>>=_ p (λ a. done (make a)) s at) ≡ runs (skip p ∷ []) s at
+one p make s at = then p _ _ _ s at refl (λ a k. end (make a) s k)
+
+pub two : {A B Z : Type 0} (p : Reader A) (q : Reader B) (make : A → B → Z) (s : List ℕ) (at : ℕ)
+    → forget (_>>=_ p (λ a. _>>=_ q (λ b. done (make a b))) s at) ≡ runs (skip p ∷ skip q ∷ []) s at
+two p q make s at = then p _ _ _ s at refl (λ a k. one q (make a) s k)
+
+pub three : {A B C Z : Type 0} (p : Reader A) (q : Reader B) (o : Reader C) (make : A → B → C → Z) (s : List ℕ) (at : ℕ)
+    → forget (_>>=_ p (λ a. _>>=_ q (λ b. _>>=_ o (λ c. done (make a b c)))) s at) ≡ runs (skip p ∷ skip q ∷ skip o ∷ []) s at
+three p q o make s at = then p _ _ _ s at refl (λ a k. two q o (make a) s k)
+
+pub four : {A B C D Z : Type 0} (p : Reader A) (q : Reader B) (o : Reader C) (n : Reader D) (make : A → B → C → D → Z) (s : List ℕ) (at : ℕ)
+    → forget (_>>=_ p (λ a. _>>=_ q (λ b. _>>=_ o (λ c. _>>=_ n (λ d. done (make a b c d))))) s at) ≡ runs (skip p ∷ skip q ∷ skip o ∷ skip n ∷ []) s at
+four p q o n make s at = then p _ _ _ s at refl (λ a k. three q o n (make a) s k)
+
+pub five : {A B C D E Z : Type 0} (p : Reader A) (q : Reader B) (o : Reader C) (n : Reader D) (m : Reader E) (make : A → B → C → D → E → Z) (s : List ℕ) (at : ℕ)
+    → forget (_>>=_ p (λ a. _>>=_ q (λ b. _>>=_ o (λ c. _>>=_ n (λ d. _>>=_ m (λ e. done (make a b c d e)))))) s at) ≡ runs (skip p ∷ skip q ∷ skip o ∷ skip n ∷ skip m ∷ []) s at
+five p q o n m make s at = then p _ _ _ s at refl (λ a k. four q o n m (make a) s k)
 
 pub by : {x y : Read} → x ≡ y → (r : Read) → r ≡ y → r ≡ x
 by e r h = h ∙ sym e

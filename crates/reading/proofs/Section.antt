@@ -16,7 +16,7 @@ use Rattle.reading.specs.Answers.{forget, gaveByte, byteAnswer}
 use Rattle.reading.specs.declared.answers.Read.{Read}
 use Rattle.reading.specs.declared.answers.Read.the-variants.{At, Refused}
 use Rattle.reading.specs.declared.answers.ReadByte.{ReadByte}
-use Rattle.reading.proofs.Taken.{byte-ok}
+use Rattle.reading.proofs.Taken.{taken-ok, byteKind}
 use Rattle.text.proofs.Order.{le-or-lt}
 use Rattle.text.proofs.Clamp.{none-of}
 use Rattle.reading.proofs.Leaves.{part-cons}
@@ -121,7 +121,7 @@ module _ (s : List ℕ) (at : ℕ) (a : ReadByte) (read : a ≡ gaveByte (byte s
 
   module _ (n start : ℕ) (g : a ≡ ReadByte.At n start) where
     begun : byte s at ≡ ok n start
-    begun = byte-ok a (byte s at) read n start g
+    begun = taken-ok byteKind a (byte s at) read n start g
 
     pub text-empty : n ≡ 0 → Refused 4 at ≡ forget (text [] s at)
     unfolding forget

@@ -1,4 +1,4 @@
--- What the code's answers tell of the reader's answer: one law over the kinds of answers, and its form for each kind. Assumes nothing.
+-- What the code's answers tell of the reader's answer: the laws over the kinds of answers, and the kinds. Assumes nothing.
 use Prim.Native.Nat.{ℕ}
 use mathlib.Core.Path.{_≡_, refl, sym, ap, _∙_}
 use Rattle.span.specs.declared.Span.{Span}
@@ -11,132 +11,99 @@ use Rattle.reading.specs.declared.answers.ReadText.{ReadText}
 use Rattle.reading.specs.declared.answers.ReadSpan.{ReadSpan}
 
 -- an enum `E` of the code, made of a reader's answer by `gave`, which `back` undoes
-module _ {A E : Type 0} (gave : Ans A → E) (back : E → Ans A) (same : (x : Ans A) → back (gave x) ≡ x) (x : Ans A) (a : E) (e : a ≡ gave x) where
-  taken : (y : Ans A) → back a ≡ y → x ≡ y
-  taken y g = sym (ap back e ∙ same x) ∙ g
+pub record Undone {A E : Type 0} (gave : Ans A → E) (back : E → Ans A) (At : A → ℕ → E) (Refused : ℕ → ℕ → E) : Type 0 where
+  pub gave-ok : (v : A) (k : ℕ) → gave (ok v k) ≡ At v k
+  pub gave-refused : (m p : ℕ) → gave (refused m p) ≡ Refused m p
+  pub back-at : (v : A) (k : ℕ) → back (At v k) ≡ ok v k
+  pub back-refused : (m p : ℕ) → back (Refused m p) ≡ refused m p
 
-  left : (r : Read) → r ≡ forget (back a) → r ≡ forget x
-  left r g = g ∙ ap forget (ap back e ∙ same x)
+pub record Kind (A E : Type 0) : Type 0 where
+  pub gave : Ans A → E
+  pub back : E → Ans A
+  pub At : A → ℕ → E
+  pub Refused : ℕ → ℕ → E
+  pub undone : Undone gave back At Refused
 
--- bytes
-byte-same : (x : Ans ℕ) → byteAnswer (gaveByte x) ≡ x
+pub back-gave : {A E : Type 0} (K : Kind A E) (x : Ans A) → K .back (K .gave x) ≡ x
+back-gave K (ok v k) = ap (K .back) (K .undone .gave-ok v k) ∙ K .undone .back-at v k
+back-gave K (refused m p) = ap (K .back) (K .undone .gave-refused m p) ∙ K .undone .back-refused m p
+
+module _ {A E : Type 0} (K : Kind A E) (a : E) where
+  back-ok : (v : A) (k : ℕ) → a ≡ K .At v k → K .back a ≡ ok v k
+  back-ok v k g = ap (K .back) g ∙ K .undone .back-at v k
+
+  back-no : (m p : ℕ) → a ≡ K .Refused m p → K .back a ≡ refused m p
+  back-no m p g = ap (K .back) g ∙ K .undone .back-refused m p
+
+  pub taken-next : (v : A) (k : ℕ) → a ≡ K .At v k → Read.At k ≡ forget (K .back a)
+  unfolding forget
+  taken-next v k g = sym (ap forget (back-ok v k g))
+
+  pub taken-no : (m p : ℕ) → a ≡ K .Refused m p → Read.Refused m p ≡ forget (K .back a)
+  unfolding forget
+  taken-no m p g = sym (ap forget (back-no m p g))
+
+  pub taken-refused : (m p : ℕ) → a ≡ K .Refused m p → (r : Read) → r ≡ forget (K .back a) → r ≡ Read.Refused m p
+  taken-refused m p g r e = e ∙ sym (taken-no m p g)
+
+  module _ (x : Ans A) (e : a ≡ K .gave x) where
+    back-is : K .back a ≡ x
+    back-is = ap (K .back) e ∙ back-gave K x
+
+    pub taken-left : (r : Read) → r ≡ forget (K .back a) → r ≡ forget x
+    taken-left r g = g ∙ ap forget back-is
+
+    pub taken-ok : (v : A) (k : ℕ) → a ≡ K .At v k → x ≡ ok v k
+    taken-ok v k g = sym back-is ∙ back-ok v k g
+
+    pub taken-not : (m p : ℕ) → a ≡ K .Refused m p → x ≡ refused m p
+    taken-not m p g = sym back-is ∙ back-no m p g
+
+    pub taken-at : (v : A) (k : ℕ) → a ≡ K .At v k → forget x ≡ Read.At k
+    unfolding forget
+    taken-at v k g = ap forget (taken-ok v k g)
+
+-- the kinds
+pub byte-undone : Undone gaveByte byteAnswer ReadByte.At ReadByte.Refused
 unfolding gaveByte byteAnswer
-byte-same (ok value next) = refl
-byte-same (refused number place) = refl
+byte-undone = record { gave-ok = λ v k. refl; gave-refused = λ m p. refl; back-at = λ v k. refl; back-refused = λ m p. refl }
 
-module _ (a : ReadByte) where
-  pub byte-next : (v : ℕ) (k : ℕ) → a ≡ ReadByte.At v k → Read.At k ≡ forget (byteAnswer a)
-  unfolding byteAnswer forget
-  byte-next v k g = rw g
+abbrev pub byteKind : Kind ℕ ReadByte
+byteKind = record { gave = gaveByte; back = byteAnswer; At = ReadByte.At; Refused = ReadByte.Refused; undone = byte-undone }
 
-  pub byte-no : (m p : ℕ) → a ≡ ReadByte.Refused m p → Read.Refused m p ≡ forget (byteAnswer a)
-  unfolding byteAnswer forget
-  byte-no m p g = rw g
-
-  pub byte-refused : (m p : ℕ) → a ≡ ReadByte.Refused m p → (r : Read) → r ≡ forget (byteAnswer a) → r ≡ Read.Refused m p
-  byte-refused m p g r e = e ∙ sym (byte-no m p g)
-
-  module _ (x : Ans ℕ) (e : a ≡ gaveByte x) where
-    pub byte-left : (r : Read) → r ≡ forget (byteAnswer a) → r ≡ forget x
-    byte-left = left gaveByte byteAnswer byte-same x a e
-
-    pub byte-ok : (v : ℕ) (k : ℕ) → a ≡ ReadByte.At v k → x ≡ ok v k
-    unfolding byteAnswer
-    byte-ok v k g = taken gaveByte byteAnswer byte-same x a e (ok v k) (rw g)
-
-    pub byte-not : (m p : ℕ) → a ≡ ReadByte.Refused m p → x ≡ refused m p
-    unfolding byteAnswer
-    byte-not m p g = taken gaveByte byteAnswer byte-same x a e (refused m p) (rw g)
-
-    pub byte-at : (v : ℕ) (k : ℕ) → a ≡ ReadByte.At v k → forget x ≡ Read.At k
-    unfolding forget
-    byte-at v k g = ap forget (byte-ok v k g)
-
--- numbers
-pub number-same : (x : Ans ℕ) → numberAnswer (gaveNumber x) ≡ x
+pub number-undone : Undone gaveNumber numberAnswer ReadNumber.At ReadNumber.Refused
 unfolding gaveNumber numberAnswer
-number-same (ok value next) = refl
-number-same (refused number place) = refl
+number-undone = record { gave-ok = λ v k. refl; gave-refused = λ m p. refl; back-at = λ v k. refl; back-refused = λ m p. refl }
 
-module _ (a : ReadNumber) where
-  pub number-next : (v : ℕ) (k : ℕ) → a ≡ ReadNumber.At v k → Read.At k ≡ forget (numberAnswer a)
-  unfolding numberAnswer forget
-  number-next v k g = rw g
+abbrev pub numberKind : Kind ℕ ReadNumber
+numberKind = record { gave = gaveNumber; back = numberAnswer; At = ReadNumber.At; Refused = ReadNumber.Refused; undone = number-undone }
 
-  pub number-no : (m p : ℕ) → a ≡ ReadNumber.Refused m p → Read.Refused m p ≡ forget (numberAnswer a)
-  unfolding numberAnswer forget
-  number-no m p g = rw g
-
-  pub number-refused : (m p : ℕ) → a ≡ ReadNumber.Refused m p → (r : Read) → r ≡ forget (numberAnswer a) → r ≡ Read.Refused m p
-  number-refused m p g r e = e ∙ sym (number-no m p g)
-
-  module _ (x : Ans ℕ) (e : a ≡ gaveNumber x) where
-    pub number-left : (r : Read) → r ≡ forget (numberAnswer a) → r ≡ forget x
-    number-left = left gaveNumber numberAnswer number-same x a e
-
-    pub number-ok : (v : ℕ) (k : ℕ) → a ≡ ReadNumber.At v k → x ≡ ok v k
-    unfolding numberAnswer
-    number-ok v k g = taken gaveNumber numberAnswer number-same x a e (ok v k) (rw g)
-
-    pub number-not : (m p : ℕ) → a ≡ ReadNumber.Refused m p → x ≡ refused m p
-    unfolding numberAnswer
-    number-not m p g = taken gaveNumber numberAnswer number-same x a e (refused m p) (rw g)
-
-    pub number-at : (v : ℕ) (k : ℕ) → a ≡ ReadNumber.At v k → forget x ≡ Read.At k
-    unfolding forget
-    number-at v k g = ap forget (number-ok v k g)
-
--- text numbers
-text-same : (x : Ans ℕ) → textAnswer (gaveText x) ≡ x
+pub text-undone : Undone gaveText textAnswer ReadText.At ReadText.Refused
 unfolding gaveText textAnswer
-text-same (ok value next) = refl
-text-same (refused number place) = refl
+text-undone = record { gave-ok = λ v k. refl; gave-refused = λ m p. refl; back-at = λ v k. refl; back-refused = λ m p. refl }
 
-module _ (a : ReadText) where
-  pub text-next : (v : ℕ) (k : ℕ) → a ≡ ReadText.At v k → Read.At k ≡ forget (textAnswer a)
-  unfolding textAnswer forget
-  text-next v k g = rw g
+abbrev pub textKind : Kind ℕ ReadText
+textKind = record { gave = gaveText; back = textAnswer; At = ReadText.At; Refused = ReadText.Refused; undone = text-undone }
 
-  pub text-no : (m p : ℕ) → a ≡ ReadText.Refused m p → Read.Refused m p ≡ forget (textAnswer a)
-  unfolding textAnswer forget
-  text-no m p g = rw g
-
-  pub text-refused : (m p : ℕ) → a ≡ ReadText.Refused m p → (r : Read) → r ≡ forget (textAnswer a) → r ≡ Read.Refused m p
-  text-refused m p g r e = e ∙ sym (text-no m p g)
-
-  module _ (x : Ans ℕ) (e : a ≡ gaveText x) where
-    pub text-left : (r : Read) → r ≡ forget (textAnswer a) → r ≡ forget x
-    text-left = left gaveText textAnswer text-same x a e
-
-    pub text-ok : (v : ℕ) (k : ℕ) → a ≡ ReadText.At v k → x ≡ ok v k
-    unfolding textAnswer
-    text-ok v k g = taken gaveText textAnswer text-same x a e (ok v k) (rw g)
-
-    pub text-not : (m p : ℕ) → a ≡ ReadText.Refused m p → x ≡ refused m p
-    unfolding textAnswer
-    text-not m p g = taken gaveText textAnswer text-same x a e (refused m p) (rw g)
-
-    pub text-at : (v : ℕ) (k : ℕ) → a ≡ ReadText.At v k → forget x ≡ Read.At k
-    unfolding forget
-    text-at v k g = ap forget (text-ok v k g)
-
--- spans
-span-same : (x : Ans Span) → spanAnswer (gaveSpan x) ≡ x
+pub span-undone : Undone gaveSpan spanAnswer ReadSpan.At ReadSpan.Refused
 unfolding gaveSpan spanAnswer
-span-same (ok value next) = refl
-span-same (refused number place) = refl
+span-undone = record { gave-ok = λ v k. refl; gave-refused = λ m p. refl; back-at = λ v k. refl; back-refused = λ m p. refl }
 
-module _ (a : ReadSpan) where
-  pub span-next : (v : Span) (k : ℕ) → a ≡ ReadSpan.At v k → Read.At k ≡ forget (spanAnswer a)
-  unfolding spanAnswer forget
-  span-next v k g = rw g
+abbrev pub spanKind : Kind Span ReadSpan
+spanKind = record { gave = gaveSpan; back = spanAnswer; At = ReadSpan.At; Refused = ReadSpan.Refused; undone = span-undone }
 
-  pub span-no : (m p : ℕ) → a ≡ ReadSpan.Refused m p → Read.Refused m p ≡ forget (spanAnswer a)
-  unfolding spanAnswer forget
-  span-no m p g = rw g
+-- an answer that is handed on, for each kind that `search` meets
+abbrev Left : {A E : Type 0} → Kind A E → Type 0
+Left {A} {E} K = (a : E) (x : Ans A) → a ≡ K .gave x → (r : Read) → r ≡ forget (K .back a) → r ≡ forget x
 
-  pub span-left : (x : Ans Span) → a ≡ gaveSpan x → (r : Read) → r ≡ forget (spanAnswer a) → r ≡ forget x
-  span-left x e = left gaveSpan spanAnswer span-same x a e
+pub byte-left : Left byteKind
+byte-left = taken-left byteKind
+
+pub number-left : Left numberKind
+number-left = taken-left numberKind
+
+pub span-left : Left spanKind
+span-left = taken-left spanKind
 
 -- a number as the number of a text
 module _ (a : ReadNumber) where

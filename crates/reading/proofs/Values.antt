@@ -16,9 +16,9 @@ use Rattle.reading.specs.declared.answers.Read.{Read}
 use Rattle.reading.specs.declared.answers.Read.the-variants.{At, Refused}
 use Rattle.reading.specs.declared.answers.ReadByte.{ReadByte}
 use Rattle.reading.specs.declared.answers.ReadText.{ReadText}
-use Rattle.reading.proofs.Taken.{byte-left, byte-refused, byte-ok, number-left, text-left, text-refused, text-at}
+use Rattle.reading.proofs.Taken.{byte-left, number-left, taken-left, taken-refused, taken-ok, taken-at, byteKind, textKind}
 use Rattle.text.proofs.Order.{le-or-lt}
-use Rattle.reading.proofs.Runs.{skip, runs, runs-refused, runs-last, runs-more, then, end, by}
+use Rattle.reading.proofs.Runs.{skip, runs, runs-refused, runs-last, runs-more, one, two, by}
 
 -- an answer is one of the two
 pub not-both : {r : Read} {k number place : ℕ} → r ≡ At k → r ≡ Refused number place → ⊥
@@ -42,15 +42,15 @@ bind-into (refused m p) f g h e = refl
 
 -- a byte that was refused
 pub byte-ends-it : {B : Type 0} (x : Ans ℕ) (f : ℕ → ℕ → Ans B) (a : ReadByte) (m p : ℕ) → a ≡ gaveByte x → a ≡ ReadByte.Refused m p → (r : Read) → r ≡ forget (byteAnswer a) → r ≡ forget (bind x f)
-byte-ends-it x f a m p e g r h = bind-refused x f r m p (byte-left a x e r h) (byte-refused a m p g r h)
+byte-ends-it x f a m p e g r h = bind-refused x f r m p (taken-left byteKind a x e r h) (taken-refused byteKind a m p g r h)
 
 -- a case byte
 module _ (s : List ℕ) (at cases : ℕ) (a : ReadByte) (read : a ≡ gaveByte (caseByte cases s at)) (b k : ℕ) (g : a ≡ ReadByte.At b k) where
   case-told : (length s ≤ at) ⊎ (at < length s) → (cases ≤ getD s at 0) ⊎ (getD s at 0 < cases) → (at < length s) × (b < cases) × (k ≡ at + 1)
-  case-told (inl h) c = absurd (never-ok (byte-ok a _ read b k g) (case-end s at cases h))
-  case-told (inr h) (inl c) = absurd (never-ok (byte-ok a _ read b k g) (case-none s at cases h c))
+  case-told (inl h) c = absurd (never-ok (taken-ok byteKind a _ read b k g) (case-end s at cases h))
+  case-told (inr h) (inl c) = absurd (never-ok (taken-ok byteKind a _ read b k g) (case-none s at cases h c))
   case-told (inr h) (inr c) =
-      let e : ok b k ≡ ok (getD s at 0) (at + 1) = sym (byte-ok a _ read b k g) ∙ case-in s at cases h c in
+      let e : ok b k ≡ ok (getD s at 0) (at + 1) = sym (taken-ok byteKind a _ read b k g) ∙ case-in s at cases h c in
       let v : b ≡ getD s at 0 = cc in
       (h, rw v c, cc)
 
@@ -71,16 +71,16 @@ module _ {B : Type 0} (cases : ℕ) (f : ℕ → ℕ → Reader B) (s : List ℕ
 
   pub choice-read : (b k : ℕ) → a ≡ ReadByte.At b k → _>>=_ here (λ place. _>>=_ (caseByte cases) (f place)) s at ≡ f at b s k
   unfolding here _>>=_ bind
-  choice-read b k g = rw (byte-ok a (caseByte cases s at) read b k g)
+  choice-read b k g = rw (taken-ok byteKind a (caseByte cases s at) read b k g)
 
 pub one-of : (s : List ℕ) (at : ℕ) {A : Type 0} (c : A) (cs : List A) → forget (oneOf c cs s at) ≡ forget (caseByte (suc (length cs)) s at)
 unfolding oneOf
-one-of s at c cs = then _ _ (skip (caseByte (suc (length cs)))) _ s at refl (λ b k. end _ s k) ∙ sym (runs-last (skip (caseByte (suc (length cs)))) s at _ refl)
+one-of s at c cs = one _ _ s at ∙ sym (runs-last (skip (caseByte (suc (length cs)))) s at _ refl)
 
 -- the two numbers of a slice
 pub slice-is : (s : List ℕ) (at : ℕ) (r : Read) → r ≡ runs (skip u64 ∷ skip u64 ∷ []) s at → r ≡ forget (slice s at)
 unfolding slice
-slice-is s at r = by (then _ _ _ _ s at refl (λ a k. then _ _ _ _ s k refl (λ b m. end _ s m))) r
+slice-is s at r = by (two _ _ _ s at) r
 
 -- an Option
 module _ {A : Type 0} (p : Reader A) (s : List ℕ) (at : ℕ) (a : ReadByte) (read : a ≡ gaveByte (caseByte 2 s at)) where
@@ -91,7 +91,7 @@ module _ {A : Type 0} (p : Reader A) (s : List ℕ) (at : ℕ) (a : ReadByte) (r
   module _ (b k : ℕ) (g : a ≡ ReadByte.At b k) where
     option-at : option p s at ≡ optionCase p b s k
     unfolding option _>>=_ bind
-    option-at = rw (byte-ok a (caseByte 2 s at) read b k g)
+    option-at = rw (taken-ok byteKind a (caseByte 2 s at) read b k g)
 
     pub option-none : b ≡ 0 → At k ≡ forget (option p s at)
     unfolding optionCase done forget
@@ -103,7 +103,7 @@ module _ {A : Type 0} (p : Reader A) (s : List ℕ) (at : ℕ) (a : ReadByte) (r
       where
         go : (b : ℕ) → (b ≡ 0 → ⊥) → r ≡ forget (optionCase p b s k)
         go zero z = absurd (z refl)
-        go (suc b) z = by (then _ _ _ _ s k refl (λ a m. end _ s m)) r (runs-last (skip p) s k r h)
+        go (suc b) z = by (one _ _ s k) r (runs-last (skip p) s k r h)
 
 pub ruleset options = (option-refused, option-none, option-some, byte-left, number-left)
 
@@ -111,7 +111,7 @@ pub ruleset options = (option-refused, option-none, option-some, byte-left, numb
 module _ {A B : Type 0} (nil : B) (cons : A → B → B) (p : Reader A) (s : List ℕ) where
   repeat-run : (n : ℕ) (at : ℕ) → forget (repeat nil cons p (suc n) s at) ≡ runs (skip p ∷ skip (repeat nil cons p n) ∷ []) s at
   unfolding repeat
-  repeat-run n at = then _ _ _ _ s at refl (λ a k. then _ _ _ _ s k refl (λ b m. end _ s m))
+  repeat-run n at = two _ _ _ s at
 
   module _ (x : Read) (n k : ℕ) (inv : x ≡ forget (repeat nil cons p n s k)) where
     pub repeat-none : n ≤ 0 → At k ≡ x
@@ -143,15 +143,15 @@ module _ {A B : Type 0} (nil : B) (cons : A → B → B) (p : Reader A) (s : Lis
 
     pub counted-start : (n k : ℕ) → a ≡ ReadByte.At n k → forget (counted nil cons p s at) ≡ forget (repeat nil cons p n s k)
     unfolding counted _>>=_ bind
-    counted-start n k g = rw (byte-ok a (count s at) read n k g)
+    counted-start n k g = rw (taken-ok byteKind a (count s at) read n k g)
 
 -- so many text numbers
 module _ {B : Type 0} (nil : B) (cons : ℕ → B → B) (p : Reader ℕ) (s : List ℕ) (x : Read) (n k : ℕ) (inv : x ≡ forget (repeat nil cons p n s k)) (h : 0 < n) (a : ReadText) (read : a ≡ gaveText (p s k)) where
   pub texts-refused : (m q : ℕ) → a ≡ ReadText.Refused m q → (r : Read) → r ≡ forget (textAnswer a) → r ≡ x
-  texts-refused m q g r e = repeat-refused nil cons p s x n k inv h r m q (text-left a _ read r e) (text-refused a m q g r e)
+  texts-refused m q g r e = repeat-refused nil cons p s x n k inv h r m q (taken-left textKind a _ read r e) (taken-refused textKind a m q g r e)
 
   pub texts-more : (v next : ℕ) → a ≡ ReadText.At v next → x ≡ forget (repeat nil cons p (n - 1) s next)
-  texts-more v next g = repeat-more nil cons p s x n k inv h (forget (p s k)) next refl (text-at a _ read v next g)
+  texts-more v next g = repeat-more nil cons p s x n k inv h (forget (p s k)) next refl (taken-at textKind a _ read v next g)
 
 pub positive : (m n : ℕ) → m < n → 0 < n
 positive m n h = omega arith

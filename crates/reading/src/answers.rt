@@ -55,7 +55,7 @@ impl ReadNumber {
     }
 
     // The number as that of a text.
-    pub fn into_text(self) -> ReadText
+    pub(crate) fn into_text(self) -> ReadText
         ensures { λ r. ⌜ r ≡ gaveText (numberAnswer self) ⌝ }
     {
         match self {

@@ -4,6 +4,7 @@ use crate::answers::ReadByte;
 use crate::answers::ReadNumber;
 use crate::answers::ReadSpan;
 use span::Span;
+use text::wide;
 ghost use mathlib.Core.Path.{_≡_};
 ghost use Prim.Native.Nat.{_≤_, _<_, _+_, _-_, _^_};
 ghost use lib.ListN.{length, take, drop};
@@ -17,19 +18,13 @@ const VEC_LIMIT: u8 = 16;
 // The bytes that a Bool or an Option begins with: 0 and 1.
 pub const FLAGS: u8 = 2;
 
-pub fn wide(x: u8) -> usize
-    ensures { λ r. ⌜ (r ≡ x) × (r < 256) ⌝ }
-{
-    x as usize
-}
-
 pub fn size(n: u64) -> usize
     ensures { λ r. ⌜ r ≡ n ⌝ }
 {
     n as usize
 }
 
-pub fn read_byte(s: &[u8], at: usize) -> ReadByte
+pub(crate) fn read_byte(s: &[u8], at: usize) -> ReadByte
     ensures { λ r. ⌜ r ≡ gaveByte (byte (now (s .entry)) at) ⌝ }
 {
     if s.len() <= at {
@@ -67,7 +62,7 @@ pub fn read_count(s: &[u8], at: usize) -> ReadByte
 }
 
 // How many bytes there are from a place on.
-pub fn bytes_from(s: &[u8], at: usize) -> usize
+pub(crate) fn bytes_from(s: &[u8], at: usize) -> usize
     ensures { λ r. ⌜ r ≡ length (now (s .entry)) - at ⌝ }
 {
     if s.len() < at {

@@ -1,5 +1,5 @@
 // How names and float literals are spelled, and whether two texts are equal.
-use crate::numbers::wide;
+use text::wide;
 ghost use mathlib.Core.Path.{_≡_};
 ghost use Prim.Native.Nat.{_<_, _≤_, _+_, _^_};
 ghost use lib.ListN.{length};

@@ -19,7 +19,6 @@ ghost use Rattle.scopes.specs.Scopes.{registerKind, Declares, named, typ
 use accepted::exprs::skip_option_expr;
 use accepted::numbers::span_at;
 use accepted::numbers::u16_at;
-use accepted::numbers::wide;
 use accepted::operands::number_at;
 use accepted::parts::skip_qualifier;
 use ast::ClassicalType;
@@ -28,6 +27,7 @@ use context::Number;
 use context::Symbol;
 use context::SymbolKind;
 use span::Span;
+use text::wide;
 
 // What a declaration declares, and the place past it.
 pub struct Declaration {
@@ -55,13 +55,7 @@ pub fn type_at(tree: &[u8], at: usize) -> ClassicalType
     requires { ⌜ at < length (now tree) ⌝ }
     ensures { λ r. ⌜ r ≡ typeOf (getD (now (tree .entry)) at 0) ⌝ }
 {
-    match tree[at] {
-        1 => ClassicalType::UInt,
-        2 => ClassicalType::Float,
-        3 => ClassicalType::Angle,
-        4 => ClassicalType::Bool,
-        _ => ClassicalType::Int,
-    }
+    tables::type_of(tree[at])
 }
 
 // The kind of a register by the case byte of its declaration.

@@ -11,7 +11,7 @@ use Rattle.text.proofs.Tests.{and-both}
 use Rattle.span.specs.declared.Span.{Span}
 use Rattle.ast.specs.Tree.{TextNumber, GateOperand}
 use Rattle.sema.specs.Symbols.{Symbols, get, orElse}
-use Rattle.sema.specs.Marks.{Key, key, Marks, Effect, set, clear, keep, between, inSlice, isIndex, belowSize, sizeOf, measures, resets, markMeasured, clearMeasured, mark, apply, unite, afterLoop, lookupMeasured}
+use Rattle.sema.specs.Marks.{Key, key, Marks, Effect, set, clear, keep, between, inSlice, isIndex, belowSize, sizeOf, measures, resets, markMeasured, clearMeasured, unite, afterLoop, lookupMeasured}
 use Rattle.sema.specs.Operands.{isSome}
 
 -- tests and facts
@@ -121,27 +121,9 @@ cond-or : (b : Bool) (e : Effect) → (cond b e keep ≡ e) ⊎ (cond b e keep �
 cond-or true e = inl refl
 cond-or false e = inr refl
 
-pub measure-or-keep : (ss : Symbols) (op : GateOperand) (k : Key) → (markMeasured ss op k ≡ set) ⊎ (markMeasured ss op k ≡ keep)
-unfolding markMeasured
-measure-or-keep ss op k = cond-or (eqb (k .name) (op .name) && measures (sizeOf (get ss (op .name))) (op .slice) (op .index) (k .index)) set
-
 pub reset-or-keep : (op : GateOperand) (k : Key) → (clearMeasured op k ≡ clear) ⊎ (clearMeasured op k ≡ keep)
 unfolding clearMeasured
 reset-or-keep op k = cond-or (eqb (k .name) (op .name) && resets (op .slice) (op .index) (k .index)) clear
-
--- Marks after an effect, at a key.
-module _ (f : Key → Effect) (sp : Span) (m : Marks) (k : Key) where
-  pub apply-set : f k ≡ set → apply f sp m k ≡ some sp
-  unfolding apply mark
-  apply-set e = rw e
-
-  pub apply-clear : f k ≡ clear → apply f sp m k ≡ none
-  unfolding apply mark
-  apply-clear e = rw e
-
-  pub apply-keep : f k ≡ keep → apply f sp m k ≡ m k
-  unfolding apply mark
-  apply-keep e = rw e
 
 -- Marks united, at a key: the mark of the first side wins.
 is-some-or : {A : Type 0} (a b : Option A) → isSome (orElse a b) ≡ isSome a || isSome b
@@ -168,10 +150,6 @@ after-loop entry exit = refl
 
 -- "q[i] by its own and the whole key", its own first
 module _ (m : Marks) (x : TextNumber) (i : ℕ) where
-  pub covered-either : isSome (lookupMeasured m x (some i)) ≡ isSome (m (key x (some i))) || isSome (m (key x none))
-  unfolding lookupMeasured
-  covered-either = is-some-or (m (key x (some i))) (m (key x none))
-
   pub covered-own : (sp : Span) → m (key x (some i)) ≡ some sp → lookupMeasured m x (some i) ≡ some sp
   unfolding lookupMeasured
   covered-own sp e = rw e

@@ -46,25 +46,6 @@ keep-sets-none e = let z : _≡_ {A = ℕ} 0 1 = cc in omega arith
 reset-sets-none : (op : GateOperand) (k : Key) → clearMeasured op k ≡ set → ⊥
 reset-sets-none op k e = ⊎-elim (λ c. let z : _≡_ {A = ℕ} 0 1 = cc in omega arith) (λ c. keep-sets-none (sym c ∙ e)) (reset-or-keep op k)
 
--- a statement whose effect on a key is to set it sets the key
-pub effect-sets : (s : Stmt) (ss : Symbols) (k : Key) → effect ss s k ≡ set → SetsStmt s ss k
-unfolding effect
-effect-sets (Stmt.Include at path sp) ss k e = keep-sets-none e
-effect-sets (Stmt.QubitDecl at x size sp) ss k e = keep-sets-none e
-effect-sets (Stmt.BitDecl at x size sp) ss k e = keep-sets-none e
-effect-sets (Stmt.ClassicalDecl at q ty x init sp) ss k e = keep-sets-none e
-effect-sets (Stmt.Assignment at x op value sp) ss k e = keep-sets-none e
-effect-sets (Stmt.GateCall at x modifiers params args sp) ss k e = keep-sets-none e
-effect-sets (Stmt.GateDef at x params qparams body sp) ss k e = absurd (keep-sets-none e)
-effect-sets (Stmt.FunctionDef at x params return-type body sp) ss k e = keep-sets-none e
-effect-sets (Stmt.Measure at qubit target sp) ss k e = e
-effect-sets (Stmt.Reset at target sp) ss k e = reset-sets-none target k e
-effect-sets (Stmt.Barrier at targets sp) ss k e = keep-sets-none e
-effect-sets (Stmt.Delay at duration targets sp) ss k e = keep-sets-none e
-effect-sets (Stmt.If at condition then-body else-body sp) ss k e = absurd (keep-sets-none e)
-effect-sets (Stmt.For at x ty range body sp) ss k e = absurd (keep-sets-none e)
-effect-sets (Stmt.While at condition body sp) ss k e = absurd (keep-sets-none e)
-
 module _ (t : List Text) where
   symbols-else : (e : Else) (c i : SemaContext) → analyzeElse t e c i .0 .symbols ≡ c .symbols
   unfolding analyzeElse

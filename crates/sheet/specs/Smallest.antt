@@ -1,5 +1,5 @@
 -- The smallest covered index by places is the one by marks, where no two keys are equal. Assumes nothing.
-use Prim.Native.Nat.{ℕ, zero, suc, _+_, _-_, _≤_, _<_}
+use Prim.Native.Nat.{ℕ, zero, suc, _-_, _≤_, _<_}
 use mathlib.Core.Path.{_≡_, refl, sym, ap, _∙_}
 use mathlib.Core.List.{List, [], _∷_}
 use mathlib.Core.Option.{Option, none, some}
@@ -7,41 +7,14 @@ use mathlib.Core.Bool.{true, false, _&&_, false≢true, and-eq-true-iff}
 use native.Mathlib.Omega.{arith}
 use lib.Dec.{eqb, leb}
 use borrow.Author.Tests.{eqb-true, eqb-false, leb-true, leb-false, eq-eqb, le-leb}
-use Rattle.span.specs.declared.Span.{Span}
 use Rattle.ast.specs.Tree.{TextNumber}
-use Rattle.sema.specs.Marks.{Key, key, Marks, inSlice, lookupMeasured, firstCovered, smallestCovered}
+use Rattle.sema.specs.Marks.{Key, key, inSlice, lookupMeasured, smallestCovered}
 use Rattle.sema.specs.Keys.{sameKey, hasKey}
+use Rattle.sema.specs.LawsCover.{smallest-none, smallest-some, smallest-empty}
 use Rattle.context.specs.View.{placeIn, measureSpan, markBy, marksOf}
 use Rattle.sheet.specs.declared.Covered.{Covered}
 use Rattle.sheet.specs.Sheet.{first, lookupIn, smaller, offer, leastIn, byWhole, smallestIn, coveredOf, Distinct}
 use Rattle.sheet.specs.Places.{by-test, key-eq, same-key, place-here, place-there, unplaced, first-none, first-pos, lookup-marks}
-
--- the first covered index of a range
-module _ (m : Marks) (x : TextNumber) where
-  step-none : (n i : ℕ) → lookupMeasured m x (some i) ≡ none → firstCovered m x (suc n) i ≡ firstCovered m x n (suc i)
-  unfolding firstCovered
-  step-none n i e = rw (e, firstCovered)
-
-  step-some : (n i : ℕ) (sp : Span) → lookupMeasured m x (some i) ≡ some sp → firstCovered m x (suc n) i ≡ some (i, sp)
-  unfolding firstCovered
-  step-some n i sp e = rw (e, firstCovered)
-
-  none-covered : (n i : ℕ) → ((j : ℕ) → i ≤ j → j < i + n → lookupMeasured m x (some j) ≡ none) → firstCovered m x n i ≡ none
-  unfolding firstCovered
-  none-covered zero i h = refl
-  none-covered (suc n) i h =
-      step-none n i (h i (omega arith) (omega arith)) ∙ none-covered n (suc i) (λ j a b. h j (omega arith) (omega arith))
-
-  first-covered : (n i j : ℕ) (sp : Span) → i ≤ j → j < i + n → ((l : ℕ) → i ≤ l → l < j → lookupMeasured m x (some l) ≡ none)
-      → lookupMeasured m x (some j) ≡ some sp → firstCovered m x n i ≡ some (j, sp)
-  first-covered zero i j sp a b h e = absurd (omega arith)
-  first-covered (suc n) i j sp a b h e =
-      by-test (eqb i j)
-      (λ t. let u : i ≡ j = eqb-true i j t in rw (← u) (step-some n i sp (rw u e)))
-      (λ t.
-      let u : i ≡ j → ⊥ = eqb-false i j t in
-      step-none n i (h i (omega arith) (omega arith))
-      ∙ first-covered n (suc i) j sp (omega arith) (omega arith) (λ l c d. h l (omega arith) d) e)
 
 -- c is the smallest index of a range that has a place, with its place
 unfoldable pub IsLeast : (ℕ → ℕ) → ℕ → ℕ → Covered → Type 0
@@ -162,24 +135,18 @@ module _ (tree : List ℕ) (ks : List Key) (sheet : List ℕ) (x : TextNumber) w
       by-own j p e = looked j p (rw (e, z) (first-none p))
 
       least-marks : a ≤ b → (c : Covered) → IsLeast (own x a b ks sheet) a b c → coveredOf tree c ≡ smallestCovered (marksOf tree ks sheet) x (a, b)
-      unfolding IsLeast smallestCovered markBy
+      unfolding IsLeast markBy
       least-marks l Covered.None h =
-          sym (none-covered (marksOf tree ks sheet) x (suc b - a) a (λ j u v. by-own j 0 (h j u (omega arith))))
+          sym (smallest-none (marksOf tree ks sheet) x a b .1 (λ j u v. by-own j 0 (h j u v)))
       least-marks l (Covered.At i p) h =
-          sym
-          (first-covered (marksOf tree ks sheet) x (suc b - a) a i (measureSpan tree p) (h .0) (omega (arith, h .1))
-          (λ j u v. by-own j 0 (h .4 j u v))
-          (by-own i p (h .3) ∙ mark-some p (h .2)))
+          sym (smallest-some (marksOf tree ks sheet) x a b i (measureSpan tree p) .1 (h .0, h .1, by-own i p (h .3) ∙ mark-some p (h .2), λ j u v. by-own j 0 (h .4 j u v)))
 
     -- the whole key has a mark
     whole-marks : a ≤ b → 0 < whole → coveredOf tree (Covered.At a (lookupIn ks sheet x (some a))) ≡ smallestCovered (marksOf tree ks sheet) x (a, b)
-    unfolding smallestCovered lookupIn
+    unfolding lookupIn
     whole-marks l h =
         let p = first (own x a b ks sheet a) whole in
-        sym
-        (first-covered (marksOf tree ks sheet) x (suc b - a) a a (measureSpan tree p) (omega arith) (omega arith)
-        (λ j u v. absurd (omega arith))
-        (looked a p refl ∙ mark-some p (first-pos (own x a b ks sheet a) whole h)))
+        sym (smallest-some (marksOf tree ks sheet) x a b a (measureSpan tree p) .1 (omega arith, l, looked a p refl ∙ mark-some p (first-pos (own x a b ks sheet a) whole h), λ j u v. absurd (omega arith)))
 
     by-whole : (w : ℕ) → whole ≡ w → a ≤ b → Distinct ks
         → coveredOf tree (byWhole w (leastIn x (a, b) ks sheet) (Covered.At a (lookupIn ks sheet x (some a)))) ≡ smallestCovered (marksOf tree ks sheet) x (a, b)
@@ -188,8 +155,8 @@ module _ (tree : List ℕ) (ks : List Key) (sheet : List ℕ) (x : TextNumber) w
 
     -- the smallest covered index by places is the one by marks
     pub smallest-marks : Distinct ks → coveredOf tree (smallestIn ks sheet x (a, b)) ≡ smallestCovered (marksOf tree ks sheet) x (a, b)
-    unfolding smallestIn smallestCovered firstCovered
+    unfolding smallestIn
     smallest-marks d =
         by-test (leb a b)
         (λ t. rw t (by-whole whole refl (leb-true a b t) d))
-        (λ t. let e : suc b - a ≡ 0 = omega (arith, leb-false a b t) in rw (t, e))
+        (λ t. rw t (sym (smallest-empty (marksOf tree ks sheet) x a b (leb-false a b t))))

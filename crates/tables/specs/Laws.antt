@@ -17,11 +17,6 @@ use Rattle.context.specs.View.{typeOf, below256, codePlace, scopeOf, scopesOf, 
 use Rattle.tables.specs.Entries.{typeBytes}
 use Rattle.tables.specs.Tables.{Becomes, Inserted, paramsOf, FewParams, functionIn}
 
--- a scope is left by counting one less
-pub leave : (s : List ℕ) (depth : ℕ) → scopesOf s (suc depth) ≡ scopeOf s depth ∷ scopesOf s depth
-unfolding scopesOf
-leave s depth = refl
-
 abbrev outer : Symbols → Symbols
 outer [] = []
 outer (c ∷ ss) = ss

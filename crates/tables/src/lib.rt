@@ -2,7 +2,6 @@
 // walk lends a scratch of at least 65,536 bytes, names texts by numbers below 256, and has at most 9 scopes.
 use accepted::numbers::span_at;
 use accepted::numbers::u64_at;
-use accepted::numbers::wide;
 use ast::ClassicalType;
 use context::FoundFunction;
 use context::FoundGate;
@@ -13,6 +12,7 @@ use context::Number;
 use context::Symbol;
 use context::SymbolKind;
 use span::Span;
+use text::wide;
 ghost use mathlib.Core.Path.{_≡_};
 ghost use Prim.Native.Nat.{_+_, _-_, _*_, _≤_, _<_};
 ghost use mathlib.Core.List.{[]};
@@ -76,7 +76,8 @@ fn store_span(s: &mut [u8], at: usize, sp: Span)
     store(s, at + 4, 4, sp.end as u64);
 }
 
-fn type_of(n: u8) -> ClassicalType
+// The type with a number.
+pub fn type_of(n: u8) -> ClassicalType
     ensures { λ r. ⌜ r ≡ typeOf n ⌝ }
 {
     match n {

@@ -1,7 +1,13 @@
-// Parts of a lent text.
+// Parts of a lent text, and bytes as numbers.
 ghost use mathlib.Core.Path.{_≡_};
-ghost use Prim.Native.Nat.{min};
+ghost use Prim.Native.Nat.{min, _<_};
 ghost use Rattle.text.specs.Text.{part};
+
+pub fn wide(x: u8) -> usize
+    ensures { λ r. ⌜ (r ≡ x) × (r < 256) ⌝ }
+{
+    x as usize
+}
 
 fn least(a: usize, b: usize) -> usize
     ensures { λ r. ⌜ r ≡ min a b ⌝ }

@@ -4,6 +4,7 @@ pub mod Read
 pub mod Texts
 pub mod Exprs
 pub mod Stmts
+pub mod Levels
 pub mod Decode
 pub mod Encode
 pub mod Fits

@@ -33,14 +33,14 @@ use Rattle.tables.specs.Tables.{paramsOf}
 use Rattle.promises.specs.Emitted.{Emitted, emitted-then, emitted-as}
 use Rattle.promises.specs.Typings.{TypingOf}
 use Rattle.typing.specs.declared.Callee.{Callee}
-use Rattle.typing.specs.Checks.{calleeType, calleeSays, CalleeOf, argumentAt}
+use Rattle.typing.specs.Checks.{calleeType, calleeSays, CalleeOf, unmet, argumentAt}
 use Rattle.typing.proofs.Exprs.{typing-is, found-of}
-use Rattle.typing.proofs.Spans.{span-here}
+use Rattle.accepted.specs.Spans.{span-here}
 use Rattle.typing.proofs.Owes.{Owes, owes-start, owes-as, owes-more, owes-end}
 
 -- an argument is told apart by its span alone
 argument-by : (x i : ℕ) (e : Expr) (ps : List ClassicalType) (u : Option ClassicalType) → argumentSays x i e ps u ≡ argumentAt x i (exprSpan e) ps u
-unfolding argumentSays argumentAt
+unfolding argumentSays argumentAt unmet
 argument-by x i e [] u = refl
 argument-by x i e (p ∷ ps) u = refl
 

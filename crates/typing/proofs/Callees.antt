@@ -1,7 +1,6 @@
 -- The function of a call, and its arguments, for each way out of the code. Assumes nothing.
 use Prim.Native.Nat.{ℕ, _+_, _≤_, _<_}
 use mathlib.Core.Path.{_≡_, refl}
-use mathlib.Core.Bool.{Bool, true, false}
 use mathlib.Core.List.{List, [], _∷_}
 use mathlib.Core.Option.{Option, none, some}
 use native.Mathlib.Omega.{arith}
@@ -15,12 +14,10 @@ use Rattle.ast.specs.Tree.{Text}
 use Rattle.ast.specs.declared.ClassicalType.{ClassicalType}
 use Rattle.types.specs.declared.Typed.{Typed}
 use Rattle.types.specs.declared.Typed.the-variants.{«Type», None}
-use Rattle.types.specs.Types.{assignableTo}
 use Rattle.sema.specs.Messages
 use Rattle.sema.specs.Messages.{Diagnostic, errorWithNote}
 use Rattle.sema.specs.Symbols.{FunctionSig}
 use Rattle.sema.specs.Operands.{unless}
-use Rattle.sema.specs.Exprs.{mismatch}
 use Rattle.context.specs.declared.Sink.{Sink}
 use Rattle.context.specs.declared.FunctionSig.{FunctionSig as SigValue}
 use Rattle.context.specs.declared.FoundFunction.{FoundFunction}
@@ -32,17 +29,12 @@ use Rattle.lines.specs.declared.Diagnostic.{Diagnostic as DiagnosticValue}
 use Rattle.lines.specs.Values.{diagnosticOf, errorOf, errorWithNoteOf, Reported}
 use Rattle.tables.specs.Tables.{briefOf}
 use Rattle.promises.specs.Emitted.{Emitted, emitted-none, unless-holds, unless-fails}
-use Rattle.typing.specs.Checks.{calleeType, calleeSays, CalleeOf, argumentAt}
+use Rattle.typing.specs.declared.Wanted.{Wanted}
+use Rattle.typing.specs.Checks.{calleeType, calleeSays, CalleeOf, unmet, argumentAt}
 
 -- another number of arguments than of parameters
 abbrev wrong : ℕ → ℕ → ℕ → Span → Span → Diagnostic
 wrong x n params sp at = errorWithNote (Messages.functionArguments x params n) sp Messages.functionDefined at
-
--- an argument with a type against the parameter of its place
-module _ (x i : ℕ) (sp : Span) (ps : List ClassicalType) {u : Typed} {n : ℕ} (e : n ≡ length ps) (l : i < n) {p a : ClassicalType} (q : p ≡ getD ps i ClassicalType.Int) (h : u ≡ «Type» a) {b : Bool} (v : b ≡ assignableTo p a) where
-  against : argumentAt x i sp (drop i ps) (typedOf u) ≡ unless b (diagnosticOf (errorOf (Message.ArgumentType (i + 1) x p a) sp))
-  unfolding argumentAt mismatch
-  against = let k : i < length ps = omega arith in rw (drop-cons ps i ClassicalType.Int k, h, ← q, ← v, add-one i)
 
 module _ {t : List Text} {s : Sink} {o : List ℕ} where
   -- so many arguments
@@ -75,17 +67,8 @@ module _ {t : List Text} {s : Sink} {o : List ℕ} where
         let k : length ps ≤ i = omega arith in
         rw (drop-of-length-le ps k) (emitted-none f)
 
-    pub argument-untyped : u ≡ None → SinkFits s → Emitted t (argumentAt x i sp (drop i ps) (typedOf u)) s o s o
-    unfolding argumentAt mismatch
-    argument-untyped e f = rw e (go (drop i ps))
-      where
-        go : (qs : List ClassicalType) → Emitted t (argumentAt x i sp qs none) s o s o
-        go [] = emitted-none f
-        go (q ∷ qs) = emitted-none f
-
-    module _ {n : ℕ} (e : n ≡ length ps) (l : i < n) {p a : ClassicalType} (q : p ≡ getD ps i ClassicalType.Int) (h : u ≡ «Type» a) {b : Bool} (v : b ≡ assignableTo p a) where
-      pub argument-right : b ≡ true → SinkFits s → Emitted t (argumentAt x i sp (drop i ps) (typedOf u)) s o s o
-      argument-right c f = rw (against x i sp ps e l q h v) (unless-holds b _ c f)
-
-      pub argument-wrong : {at : Span} {d : DiagnosticValue} {r : Sink} {o′ : List ℕ} → b ≡ false → at ≡ sp → d ≡ errorOf (Message.ArgumentType (i + 1) x p a) at → Reported t d s o r o′ → Emitted t (argumentAt x i sp (drop i ps) (typedOf u)) s o r o′
-      argument-wrong c w g m = rw (against x i sp ps e l q h v) (unless-fails b c (rw (g, w) at m))
+    pub argument-there : {n : ℕ} {p : ClassicalType} {r : Sink} {o′ : List ℕ} → n ≡ length ps → i < n → p ≡ getD ps i ClassicalType.Int → Emitted t (unmet (Wanted.Argument p (i + 1) x) sp (typedOf u)) s o r o′ → Emitted t (argumentAt x i sp (drop i ps) (typedOf u)) s o r o′
+    unfolding argumentAt
+    argument-there e l q m =
+        let k : i < length ps = omega arith in
+        rw (drop-cons ps i ClassicalType.Int k, ← q, ← add-one i) m

@@ -2,17 +2,16 @@
 use Prim.Native.Nat.{ℕ, _+_, _-_}
 use mathlib.Core.Path.{_≡_, sym, ap, ap₂, _∙_}
 use mathlib.Core.List.{List, [], _++_}
-use mathlib.Core.Option.{none}
+use mathlib.Core.Option.{Option, none}
+use mathlib.Core.Logic.{⊎-elim}
 use lib.ListN.{getD}
 use Rattle.span.specs.declared.Span.{Span}
 use Rattle.ast.specs.Tree.{Text, Expr}
 use Rattle.ast.specs.declared.ClassicalType.{ClassicalType}
-use Rattle.ast.specs.declared.BinOp.{BinOp}
-use Rattle.ast.specs.declared.CompareOp.{CompareOp}
 use Rattle.tree.specs.Ans.{Ans, ok, IsOk, nextOf}
 use Rattle.tree.specs.Exprs.{expr}
 use Rattle.sema.specs.Symbols.{Symbols, FunctionSig, Table}
-use Rattle.sema.specs.Exprs.{negType, arithmeticType, compareType, checkExpr}
+use Rattle.sema.specs.Exprs.{Typing, negType, arithmeticType, compareType, checkExpr}
 use Rattle.context.specs.declared.Sink.{Sink}
 use Rattle.context.specs.declared.Typing.{Typing as TypingValue}
 use Rattle.context.specs.Sink.{SinkFits}
@@ -23,7 +22,7 @@ use Rattle.accepted.specs.Parts.{valueOr, next-is, given-is, given-ok}
 use Rattle.accepted.specs.Exprs as of
 use Rattle.promises.specs.Emitted.{emitted-then, emitted-as}
 use Rattle.promises.specs.Typings.{TypingOf}
-use Rattle.typing.specs.Checks.{Found, hasType}
+use Rattle.typing.specs.Checks.{Found, hasType, operationType}
 use Rattle.typing.proofs.Finds.{found-typed}
 
 module _ {t : List Text} {ss : Symbols} {fs : Table FunctionSig} {s : Sink} {o : List ℕ} {r : TypingValue} {o′ : List ℕ} where
@@ -42,36 +41,28 @@ module _ {t : List Text} {ss : Symbols} {fs : Table FunctionSig} {s : Sink} {o :
     emitted = emitted-as (p .emitted) (given-ok blank [] (λ e. checkExpr ss fs e .says) x h);
   }
 
+-- two operands, and behind them what is found of their types
+abbrev together : Typing → Typing → (Option ClassicalType → Option ClassicalType → Typing) → Typing
+together x y kind = let n = kind (x .type) (y .type) in record { type = n .type; says = x .says ++ (y .says ++ n .says) }
+
 -- a minus and its operand, an operation and its operands
-module _ (ss : Symbols) (fs : Table FunctionSig) {t : List Text} {s : Sink} {o : List ℕ} {a : TypingValue} {o₁ : List ℕ} {k : ℕ} (l : Expr) (p : Found t (checkExpr ss fs l) k s o a o₁) (sp : Span) where
-  neg-found : {end : ℕ} {r : TypingValue} {o′ : List ℕ} → Found t (negType sp (typedOf (a .typed))) end (a .sink) o₁ r o′ → Found t (checkExpr ss fs (Expr.Neg l sp)) end s o r o′
+module _ {t : List Text} {s : Sink} {o : List ℕ} {a : TypingValue} {o₁ : List ℕ} {k : ℕ} where
+  neg-found : (ss : Symbols) (fs : Table FunctionSig) (l : Expr) → Found t (checkExpr ss fs l) k s o a o₁ → (sp : Span) {end : ℕ} {r : TypingValue} {o′ : List ℕ} → Found t (negType sp (typedOf (a .typed))) end (a .sink) o₁ r o′ → Found t (checkExpr ss fs (Expr.Neg l sp)) end s o r o′
   unfolding checkExpr
-  neg-found q = record {
+  neg-found ss fs l p sp q = record {
     next = q .next;
     type = q .type ∙ ap (λ u. negType sp u .type) (p .type);
     emitted = emitted-as (emitted-then (p .emitted) (q .emitted)) (ap (λ u. checkExpr ss fs l .says ++ negType sp u .says) (p .type));
   }
 
-  module _ {b : TypingValue} {o₂ : List ℕ} {m : ℕ} (e : Expr) (q : Found t (checkExpr ss fs e) m (a .sink) o₁ b o₂) {end : ℕ} {r : TypingValue} {o′ : List ℕ} where
-    binary-found : (op : BinOp) → Found t (arithmeticType sp (typedOf (a .typed)) (typedOf (b .typed))) end (b .sink) o₂ r o′ → Found t (checkExpr ss fs (Expr.BinOp op l e sp)) end s o r o′
-    unfolding checkExpr
-    binary-found op f = record {
-      next = f .next;
-      type = f .type ∙ ap₂ (λ u v. arithmeticType sp u v .type) (p .type) (q .type);
-      emitted =
-          emitted-as (emitted-then (p .emitted) (emitted-then (q .emitted) (f .emitted)))
-          (ap₂ (λ u v. checkExpr ss fs l .says ++ (checkExpr ss fs e .says ++ arithmeticType sp u v .says)) (p .type) (q .type));
-    }
-
-    compare-found : (op : CompareOp) → Found t (compareType sp (typedOf (a .typed)) (typedOf (b .typed))) end (b .sink) o₂ r o′ → Found t (checkExpr ss fs (Expr.Compare op l e sp)) end s o r o′
-    unfolding checkExpr
-    compare-found op f = record {
-      next = f .next;
-      type = f .type ∙ ap₂ (λ u v. compareType sp u v .type) (p .type) (q .type);
-      emitted =
-          emitted-as (emitted-then (p .emitted) (emitted-then (q .emitted) (f .emitted)))
-          (ap₂ (λ u v. checkExpr ss fs l .says ++ (checkExpr ss fs e .says ++ compareType sp u v .says)) (p .type) (q .type));
-    }
+  pair-found : {x y : Typing} → Found t x k s o a o₁ → {b : TypingValue} {o₂ : List ℕ} {m : ℕ} → Found t y m (a .sink) o₁ b o₂ → (kind : Option ClassicalType → Option ClassicalType → Typing) {end : ℕ} {r : TypingValue} {o′ : List ℕ} → Found t (kind (typedOf (a .typed)) (typedOf (b .typed))) end (b .sink) o₂ r o′ → Found t (together x y kind) end s o r o′
+  pair-found {x = x} {y = y} p q kind f = record {
+    next = f .next;
+    type = f .type ∙ ap₂ (λ u v. kind u v .type) (p .type) (q .type);
+    emitted =
+        emitted-as (emitted-then (p .emitted) (emitted-then (q .emitted) (f .emitted)))
+        (ap₂ (λ u v. x .says ++ (y .says ++ kind u v .says)) (p .type) (q .type));
+  }
 
 module _ (t : List Text) (left : ℕ) (s : List ℕ) (at : ℕ) (h : IsOk (expr t left s at)) {ss : Symbols} {fs : Table FunctionSig} {k : Sink} {o : List ℕ} {r : TypingValue} where
   -- literals and constants
@@ -105,13 +96,12 @@ module _ (t : List Text) (left : ℕ) (s : List ℕ) (at : ℕ) (h : IsOk (expr 
       pub neg-typing : getD s at 0 ≡ 7 → TypingOf t ss fs (expr t (left - 1) s (at + 1)) k o a o₁ → Found t (negType (spanAt s (a .next)) (typedOf (a .typed))) (a .next + 8) (a .sink) o₁ r o′ → TypingOf t ss fs (expr t left s at) k o r o′
       neg-typing b p q = typing-is (of.neg-is t left s at h b _ (p .next)) (neg-found ss fs _ (found-of _ (of.neg-inner t left s at h b) p) _ q)
 
-      module _ {v : TypingValue} {o₂ : List ℕ} where
-        pub binary-typing : getD s at 0 ≡ 8 → TypingOf t ss fs (expr t (left - 1) s (at + 2)) k o a o₁ → TypingOf t ss fs (expr t (left - 1) s (a .next)) (a .sink) o₁ v o₂ → Found t (arithmeticType (spanAt s (v .next)) (typedOf (a .typed)) (typedOf (v .typed))) (v .next + 8) (v .sink) o₂ r o′ → TypingOf t ss fs (expr t left s at) k o r o′
-        binary-typing b p q f =
-            typing-is (of.binary-is t left s at h b _ (p .next) _ (q .next))
-            (binary-found ss fs _ (found-of _ (of.binary-lhs t left s at h b) p) _ _ (found-of _ (of.binary-rhs t left s at h b _ (p .next)) q) _ f)
-
-        pub compare-typing : getD s at 0 ≡ 9 → TypingOf t ss fs (expr t (left - 1) s (at + 2)) k o a o₁ → TypingOf t ss fs (expr t (left - 1) s (a .next)) (a .sink) o₁ v o₂ → Found t (compareType (spanAt s (v .next)) (typedOf (a .typed)) (typedOf (v .typed))) (v .next + 8) (v .sink) o₂ r o′ → TypingOf t ss fs (expr t left s at) k o r o′
-        compare-typing b p q f =
-            typing-is (of.compare-is t left s at h b _ (p .next) _ (q .next))
-            (compare-found ss fs _ (found-of _ (of.compare-lhs t left s at h b) p) _ _ (found-of _ (of.compare-rhs t left s at h b _ (p .next)) q) _ f)
+      pub pair-typing : {v : TypingValue} {o₂ : List ℕ} → of.Operation t left s at h → TypingOf t ss fs (expr t (left - 1) s (at + 2)) k o a o₁ → TypingOf t ss fs (expr t (left - 1) s (a .next)) (a .sink) o₁ v o₂ → Found t (operationType (getD s at 0) (spanAt s (v .next)) (typedOf (a .typed)) (typedOf (v .typed))) (v .next + 8) (v .sink) o₂ r o′ → TypingOf t ss fs (expr t left s at) k o r o′
+      unfolding checkExpr operationType
+      pair-typing {v = v} b p q f =
+          let lhs = found-of _ (of.pair-lhs t left s at h b) p in
+          let rhs = found-of _ (of.pair-rhs t left s at h b _ (p .next)) q in
+          ⊎-elim
+          (λ c. typing-is (of.binary-is t left s at h c _ (p .next) _ (q .next)) (pair-found lhs rhs (arithmeticType (spanAt s (v .next))) (rw c at f)))
+          (λ c. typing-is (of.compare-is t left s at h c _ (p .next) _ (q .next)) (pair-found lhs rhs (compareType (spanAt s (v .next))) (rw c at f)))
+          b

@@ -3,7 +3,6 @@ pub mod Names
 pub mod Operators
 pub mod Callees
 pub mod Exprs
-pub mod Spans
 pub mod Owes
 pub mod Arguments
 pub mod Requires

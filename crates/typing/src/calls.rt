@@ -1,6 +1,7 @@
 // The function of a call, and an argument against its parameter.
 use crate::Callee;
-use accepted::numbers::span_at;
+use crate::Wanted;
+use crate::demands::check_wanted;
 use context::FoundFunction;
 use context::FunctionSig;
 use context::Sink;
@@ -113,23 +114,12 @@ pub fn check_argument(
     if params <= i {
         return sink;
     }
-    let found = t.typed;
-    let Typed::Type(actual) = found else {
-        return sink;
-    };
     let expected = tables::param_type(scratch, x, i);
-    if types::assignable(expected, actual) {
-        return sink;
-    }
-    let span = span_at(tree, t.next - 8);
-    lines::report(
-        out,
-        sink,
+    check_wanted(
         tree,
         index,
-        error(
-            Message::ArgumentType((i + 1) as u64, x, expected, actual),
-            span,
-        ),
+        out,
+        Wanted::Argument(expected, (i + 1) as u64, x),
+        t,
     )
 }

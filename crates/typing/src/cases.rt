@@ -19,12 +19,12 @@ ghost use Prim.Native.Nat.{_+_, _≤_, _<_};
 ghost use lib.ListN.{length};
 ghost use Rattle.ast.specs.Tree.{Expr};
 ghost use Rattle.tree.specs.Decode.{textsOf};
-ghost use Rattle.sema.specs.Exprs.{untyped, identType, indexType, negType, arithmeticType, compareType, checkExpr};
+ghost use Rattle.sema.specs.Exprs.{untyped, identType, indexType, negType, checkExpr};
 ghost use Rattle.context.specs.Sink.{SinkFits};
 ghost use Rattle.context.specs.Values.{kindOf, symbolOf, typedOf};
 ghost use Rattle.context.specs.View.{TextsAt, numberAt, spanAt, scopesOf, functionsOf};
 ghost use Rattle.lines.specs.Values.{Below, nameIn, diagnosticOf, errorOf};
-ghost use Rattle.typing.specs.Checks.{Checkable, Found, hasType, comparable};
+ghost use Rattle.typing.specs.Checks.{Checkable, Found, hasType, comparable, operationType, pairType, pairMessage};
 
 pub fn has_type(ty: ClassicalType, next: usize, sink: Sink) -> Typing
     ensures { λ r. ⌜ r ≡ hasType ty next sink ⌝ }
@@ -200,44 +200,6 @@ pub fn negation(tree: &[u8], index: &[u64], out: &mut [u8], t: Typing) -> Typing
     refuse(tree, index, out, sink, Message::NegationNumeric, span, next)
 }
 
-// The type of two operands with an operator between them; the span stands behind them.
-pub fn arithmetic(tree: &[u8], index: &[u64], out: &mut [u8], l: Typed, t: Typing) -> Typing
-    requires { ⌜ TextsAt (now tree) (now index) × SinkFits (t .sink) × (t .next + 8 ≤ length (now tree)) ⌝ }
-    ensures { λ r. ⌜ Found (textsOf (now (tree .entry))) (arithmeticType (spanAt (now (tree .entry)) (t .next)) (typedOf l) (typedOf (t .typed))) (t .next + 8) (t .sink) (now (out .entry)) r (now (out .exit)) ⌝ }
-{
-    let next = t.next + 8;
-    let sink = t.sink;
-    let Typed::Type(a) = l else {
-        return Typing {
-            typed: Typed::None,
-            next,
-            sink,
-        };
-    };
-    let found = t.typed;
-    let Typed::Type(b) = found else {
-        return Typing {
-            typed: Typed::None,
-            next,
-            sink,
-        };
-    };
-    let result = types::arithmetic_type(a, b);
-    let Typed::Type(ty) = result else {
-        let span = span_at(tree, t.next);
-        return refuse(
-            tree,
-            index,
-            out,
-            sink,
-            Message::ArithmeticNumeric,
-            span,
-            next,
-        );
-    };
-    has_type(ty, next, sink)
-}
-
 fn comparable(a: ClassicalType, b: ClassicalType) -> bool
     ensures { λ r. ⌜ r ≡ comparable a b ⌝ }
 {
@@ -250,10 +212,39 @@ fn comparable(a: ClassicalType, b: ClassicalType) -> bool
     false
 }
 
-// The type of two operands with a comparison between them; the span stands behind them.
-pub fn comparison(tree: &[u8], index: &[u64], out: &mut [u8], l: Typed, t: Typing) -> Typing
+// The type of an operation on two types, by its case byte: none where they do not go together.
+fn pair_type(case: u8, a: ClassicalType, b: ClassicalType) -> Typed
+    ensures { λ r. ⌜ r ≡ pairType case a b ⌝ }
+{
+    if case == 8 {
+        return types::arithmetic_type(a, b);
+    }
+    if comparable(a, b) {
+        return Typed::Type(ClassicalType::Bool);
+    }
+    Typed::None
+}
+
+fn pair_message(case: u8) -> Message
+    ensures { λ r. ⌜ r ≡ pairMessage case ⌝ }
+{
+    if case == 8 {
+        return Message::ArithmeticNumeric;
+    }
+    Message::ComparisonTypes
+}
+
+// The type of two operands with an operator or a comparison between them; the span stands behind them.
+pub fn operation(
+    tree: &[u8],
+    index: &[u64],
+    out: &mut [u8],
+    case: u8,
+    l: Typed,
+    t: Typing,
+) -> Typing
     requires { ⌜ TextsAt (now tree) (now index) × SinkFits (t .sink) × (t .next + 8 ≤ length (now tree)) ⌝ }
-    ensures { λ r. ⌜ Found (textsOf (now (tree .entry))) (compareType (spanAt (now (tree .entry)) (t .next)) (typedOf l) (typedOf (t .typed))) (t .next + 8) (t .sink) (now (out .entry)) r (now (out .exit)) ⌝ }
+    ensures { λ r. ⌜ Found (textsOf (now (tree .entry))) (operationType case (spanAt (now (tree .entry)) (t .next)) (typedOf l) (typedOf (t .typed))) (t .next + 8) (t .sink) (now (out .entry)) r (now (out .exit)) ⌝ }
 {
     let next = t.next + 8;
     let sink = t.sink;
@@ -272,9 +263,11 @@ pub fn comparison(tree: &[u8], index: &[u64], out: &mut [u8], l: Typed, t: Typin
             sink,
         };
     };
-    if comparable(a, b) {
-        return has_type(ClassicalType::Bool, next, sink);
-    }
-    let span = span_at(tree, t.next);
-    refuse(tree, index, out, sink, Message::ComparisonTypes, span, next)
+    let result = pair_type(case, a, b);
+    let Typed::Type(ty) = result else {
+        let message = pair_message(case);
+        let span = span_at(tree, t.next);
+        return refuse(tree, index, out, sink, message, span, next);
+    };
+    has_type(ty, next, sink)
 }

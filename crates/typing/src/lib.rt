@@ -1,11 +1,11 @@
 // Types of expressions over accepted bytes: check_expr, require_type, check_modifiers.
 mod calls;
 mod cases;
+mod demands;
 
 use accepted::exprs::skip_exprs;
 use accepted::numbers::span_at;
 use accepted::numbers::u16_at;
-use accepted::numbers::wide;
 use ast::ClassicalType;
 use context::After;
 use context::Sink;
@@ -13,6 +13,7 @@ use context::Typing;
 use lines::Message;
 use lines::Place;
 use lines::error;
+use text::wide;
 use types::Typed;
 ghost use mathlib.Core.Path.{_≡_};
 ghost use mathlib.Core.List.{[]};
@@ -31,13 +32,20 @@ ghost use Rattle.lines.specs.Values.{placeOf, messageOf, nameIn, Below};
 ghost use Rattle.tables.specs.Tables.{paramsOf};
 ghost use Rattle.promises.specs.Emitted.{Emitted};
 ghost use Rattle.promises.specs.Typings.{TypingOf, SaidOf, plainContext};
-ghost use Rattle.typing.specs.Checks.{Checkable};
+ghost use Rattle.typing.specs.Checks.{Checkable, NamedBelow, requireSays};
 
 // The function of a call: the call's type, the number of parameters, and the listing after what is said of the function.
 struct Callee {
     typed: Typed,
     params: usize,
     sink: Sink,
+}
+
+// What is asked of an expression's type: to fit a type at a place, to be numeric, or to fit the parameter of that number and function.
+enum Wanted {
+    Assignable(ClassicalType, Place),
+    Numeric(Message),
+    Argument(ClassicalType, u64, usize),
 }
 
 // The arguments of a call against the parameters of the function x.
@@ -135,21 +143,34 @@ pub fn check_expr(
             let t = check_expr(tree, index, scratch, out, depth, at + 1, left - 1, sink);
             cases::negation(tree, index, out, t)
         }
-        8 => {
-            let l = check_expr(tree, index, scratch, out, depth, at + 2, left - 1, sink);
-            let said = l.sink;
-            let r = check_expr(tree, index, scratch, out, depth, l.next, left - 1, said);
-            let lhs = l.typed;
-            cases::arithmetic(tree, index, out, lhs, r)
-        }
         _ => {
             let l = check_expr(tree, index, scratch, out, depth, at + 2, left - 1, sink);
             let said = l.sink;
             let r = check_expr(tree, index, scratch, out, depth, l.next, left - 1, said);
             let lhs = l.typed;
-            cases::comparison(tree, index, out, lhs, r)
+            cases::operation(tree, index, out, tree[at], lhs, r)
         }
     }
+}
+
+// An expression whose type must be as it is wanted.
+fn require(
+    tree: &[u8],
+    index: &[u64],
+    scratch: &[u8],
+    out: &mut [u8],
+    depth: usize,
+    at: usize,
+    wanted: Wanted,
+    sink: Sink,
+) -> After
+    requires { ⌜ Checkable (now tree) (now index) (now scratch) depth × SinkFits sink × IsOk (held (textsOf (now tree)) (now tree) at) × NamedBelow (length (textsOf (now tree))) wanted ⌝ }
+    ensures { λ r. ⌜ SaidOf (textsOf (now (tree .entry))) (requireSays (scopesOf (now (scratch .entry)) depth) (functionsOf (now (scratch .entry))) wanted) (held (textsOf (now (tree .entry))) (now (tree .entry)) at) sink (now (out .entry)) r (now (out .exit)) ⌝ }
+{
+    let t = check_expr(tree, index, scratch, out, depth, at, 32, sink);
+    let next = t.next;
+    let after = demands::check_wanted(tree, index, out, wanted, t);
+    After { next, sink: after }
 }
 
 // An expression that must have a type.
@@ -167,25 +188,16 @@ pub fn require_type(
     requires { ⌜ Checkable (now tree) (now index) (now scratch) depth × SinkFits sink × IsOk (held (textsOf (now tree)) (now tree) at) ⌝ }
     ensures { λ r. ⌜ SaidOf (textsOf (now (tree .entry))) (λ e. requireType (scopesOf (now (scratch .entry)) depth) (functionsOf (now (scratch .entry))) e expected (placeOf place)) (held (textsOf (now (tree .entry))) (now (tree .entry)) at) sink (now (out .entry)) r (now (out .exit)) ⌝ }
 {
-    let t = check_expr(tree, index, scratch, out, depth, at, 32, sink);
-    let next = t.next;
-    let said = t.sink;
-    let found = t.typed;
-    let Typed::Type(actual) = found else {
-        return After { next, sink: said };
-    };
-    if types::assignable(expected, actual) {
-        return After { next, sink: said };
-    }
-    let span = span_at(tree, next - 8);
-    let after = lines::report(
-        out,
-        said,
+    require(
         tree,
         index,
-        error(Message::MustHaveType(place, expected, actual), span),
-    );
-    After { next, sink: after }
+        scratch,
+        out,
+        depth,
+        at,
+        Wanted::Assignable(expected, place),
+        sink,
+    )
 }
 
 // An expression that must be numeric; the message stands at its span.
@@ -202,19 +214,16 @@ pub fn require_numeric(
     requires { ⌜ Checkable (now tree) (now index) (now scratch) depth × SinkFits sink × IsOk (held (textsOf (now tree)) (now tree) at) × Below (length (textsOf (now tree))) (nameIn message) ⌝ }
     ensures { λ r. ⌜ SaidOf (textsOf (now (tree .entry))) (λ e. requireNumeric (scopesOf (now (scratch .entry)) depth) (functionsOf (now (scratch .entry))) e (messageOf message)) (held (textsOf (now (tree .entry))) (now (tree .entry)) at) sink (now (out .entry)) r (now (out .exit)) ⌝ }
 {
-    let t = check_expr(tree, index, scratch, out, depth, at, 32, sink);
-    let next = t.next;
-    let said = t.sink;
-    let found = t.typed;
-    let Typed::Type(ty) = found else {
-        return After { next, sink: said };
-    };
-    if types::is_numeric(ty) {
-        return After { next, sink: said };
-    }
-    let span = span_at(tree, next - 8);
-    let after = lines::report(out, said, tree, index, error(message, span));
-    After { next, sink: after }
+    require(
+        tree,
+        index,
+        scratch,
+        out,
+        depth,
+        at,
+        Wanted::Numeric(message),
+        sink,
+    )
 }
 
 // The Option of a count that a control holds; the control's span stands behind it.

@@ -13,7 +13,7 @@ use Rattle.tree.specs.Decode.{textsOf}
 use Rattle.sema.specs.Messages
 use Rattle.sema.specs.Symbols.{empty}
 use Rattle.sema.specs.Marks.{Key}
-use Rattle.sema.specs.KeyCount.{SetsElse}
+use Rattle.sema.specs.KeyCount.{SetsStmt, SetsElse}
 use Rattle.sema.specs.Exprs.{requireType}
 use Rattle.sema.specs.Stmts.{SemaContext, enter, analyzeStmt, analyzeStmts, analyzeElse}
 use Rattle.context.specs.declared.State.{State}
@@ -23,12 +23,12 @@ use Rattle.accepted.specs.Parts.{valueOr, value-is, given-ok}
 use Rattle.accepted.specs.Bodies.{stmt-left}
 use Rattle.accepted.specs.Stmts.{branch-condition, branch-body, branch-else, branch-is, branch-inside}
 use Rattle.promises.specs.Emitted.{emitted-then, emitted-as}
-use Rattle.promises.specs.Walks.{Ready, StmtKeyed, BodyKeyed, Walked, StmtWalked, BodyWalked}
+use Rattle.promises.specs.Walks.{Ready, StmtKeyed, Walked, StmtWalked, BodyWalked}
 use Rattle.promises.specs.WalkLaws.{stmt-walked}
 use Rattle.bodies.specs.Opened.{ConditionOpened}
 use Rattle.walk.specs.Bodies.{ElseKeyed, walkElse}
 use Rattle.walk.proofs.Enclosed.{opened-context, opened-below, ended-context, body-walked, else-same}
-use Rattle.walk.proofs.Held.{inside-keyed}
+use Rattle.walk.proofs.Held.{Holds}
 
 module _ (tree index : List ℕ) (keys left : ℕ) (st : State) (h : IsOk (stmt (textsOf tree) left tree (st .at))) (l : left ≤ 8) (b : getD tree (st .at) 0 ≡ 12) where
   abbrev t : List Text
@@ -66,20 +66,17 @@ module _ (tree index : List ℕ) (keys left : ℕ) (st : State) (h : IsOk (stmt 
   if-else : IsOk (elseBody (stmt t (left - 1)) tree elseAt)
   if-else = branch-else t left tree (st .at) h b _ refl _ refl
 
+  pub then-holds : Holds tree left SetsStmt (stmt t left tree (st .at)) empty thenAt
+  then-holds = record { some = left-some; held = if-body; keyed = λ ks ss k j g. k .each _ _ if-is j (inl g) }
+
   module _ (s o : List ℕ) (i : State) (s′ o′ : List ℕ) (p : ConditionOpened Messages.ifCondition tree left st s o i s′ o′) where
-    pub then-held : IsOk (body (stmt t (left - 1)) tree (i .at))
-    then-held = rw (p .at) if-body
-
-    pub then-keyed : StmtKeyed ks (scopesOf s (9 - left)) (stmt t left tree (st .at)) → BodyKeyed ks (scopesOf s′ (9 - (left - 1))) (body (stmt t (left - 1)) tree (i .at))
-    then-keyed k = inside-keyed tree left ks left-some l p (λ j g. k .each _ _ if-is j (inl g))
-
     module _ (w : State) (s″ o″ : List ℕ) (v : BodyWalked tree index keys (left - 1) i s′ o′ w s″ o″) where
       walked-then : Walked tree t ks (suc (9 - left)) (analyzeStmts t thenRest) elseAt i s′ o′ w s″ o″
       walked-then = body-walked tree index keys left left-some l _ i (p .at) if-body (λ x. x) (λ n. n) v
 
       -- the scopes of the `if` are as they were
       then-scopes : scopesOf s″ (9 - left) ≡ scopesOf s (9 - left)
-      then-scopes = walked-then .below (9 - left) (omega arith) ∙ opened-below tree ks p (9 - left) (omega arith)
+      then-scopes = walked-then .below (9 - left) (omega arith) ∙ opened-below p (9 - left) (omega arith)
 
       module _ (e : State) (x : e .at ≡ w .at) (y : e .sink ≡ w .sink) (z : e .marks ≡ st .marks) where
         else-at : e .at ≡ elseAt
@@ -121,7 +118,7 @@ module _ (tree index : List ℕ) (keys left : ℕ) (st : State) (h : IsOk (stmt 
                 at = a ∙ ap (λ (k : ℕ). k + 8) (q .at ∙ ap (λ (k : ℕ). nextOf (elseBody (stmt t (left - 1)) tree k)) else-at);
                 goes = ap (λ k. contextOf tree ks s‴ (9 - left) k) m ∙ q .goes ∙ ap (λ x. x .0) else-walk;
                 emitted = rw d (emitted-then (emitted-as (p .emitted) g) (emitted-then u n));
-                below = λ k j. q .below k j ∙ walked-then .below k (omega arith) ∙ opened-below tree ks p k (omega arith);
+                below = λ k j. q .below k j ∙ walked-then .below k (omega arith) ∙ opened-below p k (omega arith);
                 same-length = q .same-length ∙ v .same-length ∙ p .becomes .same-length;
                 same-rest = q .same-rest ∙ v .same-rest ∙ p .becomes .same-rest;
                 few = q .few;

@@ -3,7 +3,7 @@ use Prim.Native.Nat.{ℕ, suc, _-_, _≤_, _<_}
 use mathlib.Core.Path.{_≡_, sym, ap, subst, _∙_}
 use mathlib.Core.List.{List, _∷_, _++_}
 use native.Mathlib.Omega.{arith}
-use Rattle.ast.specs.Tree.{Text, Stmts, noStmt, Else, noElse, someElse}
+use Rattle.ast.specs.Tree.{Text, noStmt, Else, noElse, someElse}
 use Rattle.tree.specs.Ans.{nextOf, IsOk}
 use Rattle.tree.specs.Stmts.{body, stmt}
 use Rattle.tree.specs.Decode.{textsOf}
@@ -25,18 +25,22 @@ pub level : (left : ℕ) → 0 < left → left ≤ 8 → 9 - (left - 1) ≡ suc 
 level left a b = omega arith
 
 -- the body opened
+module _ {t : List Text} {depth : ℕ} {scope : Scope} {gates : Table GateSig} {ds : List Diagnostic} {place : ℕ} {st : State} {s o : List ℕ} {i : State} {s′ o′ : List ℕ} (p : Opened t depth scope gates ds place st s o i s′ o′) where
+  pub opened-as : (r : State) → r ≡ i → Opened t depth scope gates ds place st s o r s′ o′
+  opened-as r e = subst (λ (x : State). Opened t depth scope gates ds place st s o x s′ o′) (sym e) p
+
+  pub opened-below : (d : ℕ) → d ≤ depth → scopesOf s′ d ≡ scopesOf s d
+  opened-below = entered-below (p .becomes)
+
+  pub opened-ready : {tree : List ℕ} → Ready tree s st → Ready tree s′ i
+  opened-ready r = record { room = omega (arith, p .becomes .same-length, r .room); few = few-after (p .becomes) (r .few); placed = rw (p .marks) (r .placed); fits = p .emitted .fits }
+
 module _ (tree : List ℕ) {t : List Text} (ks : List Key) {depth : ℕ} {scope : Scope} {gates : Table GateSig} {ds : List Diagnostic} {place : ℕ} {st : State} {s o : List ℕ} {i : State} {s′ o′ : List ℕ} (p : Opened t depth scope gates ds place st s o i s′ o′) where
   abbrev pub inner : SemaContext
   inner = record { symbols = scope ∷ scopesOf s depth; gates = gates; functions = functionsOf s; measured = marksOf tree ks (st .marks) }
 
   pub opened-context : contextOf tree ks s′ (suc depth) (i .marks) ≡ inner
   opened-context = context-is (p .becomes .scopes-are) (p .becomes .gates-are) (p .becomes .functions-are) (ap (marksOf tree ks) (p .marks))
-
-  pub opened-below : (d : ℕ) → d ≤ depth → scopesOf s′ d ≡ scopesOf s d
-  opened-below = entered-below (p .becomes)
-
-  pub opened-ready : Ready tree s st → Ready tree s′ i
-  opened-ready r = record { room = omega (arith, p .becomes .same-length, r .room); few = few-after (p .becomes) (r .few); placed = rw (p .marks) (r .placed); fits = p .emitted .fits }
 
   -- and walked: the walk over the whole, whose marks in the end are those of r
   module _ (within : Walk) {end″ : ℕ} {w : State} {s″ o″ : List ℕ} (b : Walked tree t ks (suc depth) within end″ i s′ o′ w s″ o″) where
@@ -56,10 +60,10 @@ module _ (tree : List ℕ) {t : List Text} (ks : List Key) {depth : ℕ} {scope 
         record {
           at = a;
           goes =
-              context-is (b .below depth (omega arith) ∙ opened-below depth (omega arith)) (ap (λ (x : SemaContext). x .gates) ended-context) (ap (λ (x : SemaContext). x .functions) ended-context) m
+              context-is (b .below depth (omega arith) ∙ opened-below p depth (omega arith)) (ap (λ (x : SemaContext). x .gates) ended-context) (ap (λ (x : SemaContext). x .functions) ended-context) m
               ∙ sym (ap (λ x. x .0) e);
           emitted = rw k (emitted-as (emitted-then (p .emitted) d) (sym (ap (λ x. x .1) e)));
-          below = λ x l. b .below x (omega arith) ∙ opened-below x (omega arith);
+          below = λ x l. b .below x (omega arith) ∙ opened-below p x (omega arith);
           same-length = b .same-length ∙ p .becomes .same-length;
           same-rest = b .same-rest ∙ p .becomes .same-rest;
           few = b .few;

@@ -1,21 +1,19 @@
 -- Statements with and without a body, by their case byte; what a loop makes of its body; what an `else` asks, and what the analysis makes of it.
 use Prim.Native.Nat.{ℕ, _+_, _-_}
-use mathlib.Core.Path.{_≡_}
-use mathlib.Core.Bool.{Bool, true, not, _&&_}
+use mathlib.Core.Bool.{Bool, not, _&&_}
 use mathlib.Core.List.{List, []}
 use lib.Dec.{eqb, ltb}
 use Rattle.ast.specs.Tree.{Text, Else}
-use Rattle.tree.specs.Ans.{Ans, ok, given, nextOf}
+use Rattle.tree.specs.Ans.{Ans, given, nextOf}
 use Rattle.tree.specs.Stmts.{stmt, body}
 use Rattle.tree.specs.Decode.{textsOf}
 use Rattle.sema.specs.Symbols.{Symbols, empty}
 use Rattle.sema.specs.Marks.{Key, afterLoop}
-use Rattle.sema.specs.Keys.{hasKey}
 use Rattle.sema.specs.KeyCount.{SetsElse}
 use Rattle.sema.specs.Stmts.{SemaContext, analyzeElse}
 use Rattle.context.specs.declared.State.{State}
 use Rattle.context.specs.View.{keysIn, gatesOf}
-use Rattle.promises.specs.Walks.{Walk, Walked, walkBody}
+use Rattle.promises.specs.Walks.{Keyed, Walk, Walked, walkBody}
 use Rattle.bodies.specs.Opened.{Opened}
 
 -- no gate definition, `if` or loop
@@ -35,8 +33,8 @@ LoopWalked tree index keys left st s o r s′ o′ =
     (nextOf (body (stmt (textsOf tree) left) tree (st .at)) + 8) st s o r s′ o′
 
 -- every key that an `else` sets is in the table
-pub record ElseKeyed (ks : List Key) (ss : Symbols) (x : Ans Else) : Type 0 where
-  pub each : (e : Else) (n : ℕ) → x ≡ ok e n → (k : Key) → SetsElse e ss k → hasKey ks k ≡ true
+abbrev pub ElseKeyed : List Key → Symbols → Ans Else → Type 0
+ElseKeyed = Keyed SetsElse
 
 -- what the analysis makes of an `else` that was read, after a `then` body that ended in the context i
 abbrev pub walkElse : List Text → SemaContext → Ans Else → Walk

@@ -1,5 +1,5 @@
 // The analysis of statements over accepted bytes: the Rust's analyze_stmt (plain_stmt, body_stmt) and analyze_stmts. The state is taken and
-// given by value, so a body that may be passed by leaves the marks of its entry; a statement without a body is lent the marks.
+// given by value, so a caller keeps the marks of the entry of a body; a statement without a body is lent the marks.
 
 use accepted::numbers::u16_at;
 use context::After;
@@ -16,6 +16,17 @@ ghost use Rattle.context.specs.View.{Placed, keysIn, scopesOf, contextOf};
 ghost use Rattle.promises.specs.Walks.{stateOf, Walkable, Ready, StmtKeyed, BodyKeyed, Walked, StmtWalked, BodyWalked};
 ghost use Rattle.walk.specs.Bodies.{isPlain, LoopWalked, ElseKeyed, walkElse};
 
+// The state past what was checked: the marks stay.
+fn moved(st: State, a: After) -> State
+    ensures { λ r. ⌜ r ≡ stateOf (a .next) (a .sink) (st .marks) ⌝ }
+{
+    let said = a.sink;
+    let mut s = st;
+    s.at = a.next;
+    s.sink = said;
+    s
+}
+
 fn gate_def(
     tree: &[u8],
     index: &[u64],
@@ -29,12 +40,8 @@ fn gate_def(
     requires { ⌜ StmtKeyed (keysIn (now index) keys) (scopesOf (now scratch) (9 - left)) (stmt (textsOf (now tree)) left (now tree) (st .at)) ⌝ }
     ensures { λ r. ⌜ StmtWalked (now (tree .entry)) (now (index .entry)) keys left st (now (scratch .entry)) (now (out .entry)) r (now (scratch .exit)) (now (out .exit)) ⌝ }
 {
-    let sink = st.sink;
-    let a = bodies::open_gate(tree, index, scratch, out, left, st.at, sink);
-    let said = a.sink;
-    let mut s = st;
-    s.at = a.next;
-    s.sink = said;
+    let a = bodies::open_gate(tree, index, scratch, out, left, st.at, st.sink);
+    let s = moved(st, a);
     let mut r = analyze_stmts(tree, index, scratch, out, keys, left - 1, s);
     r.at = r.at + 8;
     r
@@ -53,14 +60,10 @@ fn branch(
     requires { ⌜ StmtKeyed (keysIn (now index) keys) (scopesOf (now scratch) (9 - left)) (stmt (textsOf (now tree)) left (now tree) (st .at)) ⌝ }
     ensures { λ r. ⌜ StmtWalked (now (tree .entry)) (now (index .entry)) keys left st (now (scratch .entry)) (now (out .entry)) r (now (scratch .exit)) (now (out .exit)) ⌝ }
 {
-    let sink = st.sink;
-    let a = bodies::open_if(tree, index, scratch, out, left, st.at, sink);
-    let said = a.sink;
-    let mut s = st;
-    s.at = a.next;
-    s.sink = said;
+    let a = bodies::open_if(tree, index, scratch, out, left, st.at, st.sink);
+    let s = moved(st, a);
     let t = analyze_stmts(tree, index, scratch, out, keys, left - 1, s);
-    let mut e = branch_else(tree, index, scratch, out, keys, left, &s.marks, t);
+    let mut e = branch_else(tree, index, scratch, out, keys, left, &st.marks, t);
     e.at = e.at + 8;
     e
 }
@@ -113,12 +116,8 @@ fn for_loop(
     requires { ⌜ StmtKeyed (keysIn (now index) keys) (scopesOf (now scratch) (9 - left)) (stmt (textsOf (now tree)) left (now tree) (st .at)) ⌝ }
     ensures { λ r. ⌜ StmtWalked (now (tree .entry)) (now (index .entry)) keys left st (now (scratch .entry)) (now (out .entry)) r (now (scratch .exit)) (now (out .exit)) ⌝ }
 {
-    let sink = st.sink;
-    let a = bodies::open_for(tree, index, scratch, out, left, st.at, sink);
-    let said = a.sink;
-    let mut s = st;
-    s.at = a.next;
-    s.sink = said;
+    let a = bodies::open_for(tree, index, scratch, out, left, st.at, st.sink);
+    let s = moved(st, a);
     loop_body(tree, index, scratch, out, keys, left - 1, s)
 }
 
@@ -135,12 +134,8 @@ fn while_loop(
     requires { ⌜ StmtKeyed (keysIn (now index) keys) (scopesOf (now scratch) (9 - left)) (stmt (textsOf (now tree)) left (now tree) (st .at)) ⌝ }
     ensures { λ r. ⌜ StmtWalked (now (tree .entry)) (now (index .entry)) keys left st (now (scratch .entry)) (now (out .entry)) r (now (scratch .exit)) (now (out .exit)) ⌝ }
 {
-    let sink = st.sink;
-    let a = bodies::open_while(tree, index, scratch, out, left, st.at, sink);
-    let said = a.sink;
-    let mut s = st;
-    s.at = a.next;
-    s.sink = said;
+    let a = bodies::open_while(tree, index, scratch, out, left, st.at, st.sink);
+    let s = moved(st, a);
     loop_body(tree, index, scratch, out, keys, left - 1, s)
 }
 
@@ -154,8 +149,9 @@ fn loop_body(
     left: usize,
     st: State,
 ) -> State
-    requires { ⌜ Walkable (now tree) (now index) keys × Ready (now tree) (now scratch) st × IsOk (body (stmt (textsOf (now tree)) left) (now tree) (st .at)) × (left ≤ 8) × (nextOf (body (stmt (textsOf (now tree)) left) (now tree) (st .at)) + 8 ≤ length (now tree)) ⌝ }
+    requires { ⌜ Walkable (now tree) (now index) keys × Ready (now tree) (now scratch) st × IsOk (body (stmt (textsOf (now tree)) left) (now tree) (st .at)) × (left ≤ 8) ⌝ }
     requires { ⌜ BodyKeyed (keysIn (now index) keys) (scopesOf (now scratch) (9 - left)) (body (stmt (textsOf (now tree)) left) (now tree) (st .at)) ⌝ }
+    requires { ⌜ nextOf (body (stmt (textsOf (now tree)) left) (now tree) (st .at)) + 8 ≤ length (now tree) ⌝ }
     ensures { λ r. ⌜ LoopWalked (now (tree .entry)) (now (index .entry)) keys left st (now (scratch .entry)) (now (out .entry)) r (now (scratch .exit)) (now (out .exit)) ⌝ }
 {
     let mut r = analyze_stmts(tree, index, scratch, out, keys, left, st);

@@ -1,11 +1,12 @@
 -- `constants::eval_const_int` calls itself and meets its contract. Assumes nothing.
 use Prim.Native.Nat.{ℕ, _<_}
 use mathlib.Core.Path.{_≡_}
+use mathlib.Core.Logic.{inl}
 use native.Mathlib.Omega.{arith}
 use borrow.Author.Needs.{needs}
 use borrow.Fn.Kinds.{In}
 use borrow.Fn.PlainCycle.{Measures}
-use Rattle.accepted.specs.Exprs.{expr-in, expr-left, intLit-inside, neg-inner, neg-inside, binary-lhs, binary-rhs, binary-inside}
+use Rattle.accepted.specs.Exprs.{expr-in, expr-left, intLit-inside, neg-inner, neg-inside, pair-lhs, pair-rhs, pair-inside}
 use Rattle.accepted.proofs.numbers.u64_at.Reads as u64-at
 use Rattle.accepted.proofs.exprs.skip_expr.Reads as skip-expr
 use Rattle.int128.proofs.Int128.from_u64.Reads as from-u64
@@ -45,13 +46,13 @@ module _ (t : ℕ) where
       (λ c. let i = neg-inside _ _ _ _ (c .before .before .before .before .before .before .pre .1) (c .before .before .before .match .keys2) _ (c .before .before .eval-const-int .ensures .next) in omega arith)  -- add-t18: next: e.next + 8,
       (λ c. omega (arith, expr-in))  -- add-eval-const-int-2: let l = eval_const_int(tree, at + 2, left - 1);
       (λ c. omega (arith, expr-left))  -- sub-eval-const-int-2
-      (λ c κs. (omega (arith, expr-left), binary-lhs _ _ _ _ (c .before .before .before .pre .1) (c .match .keys3)))  -- eval-const-int-requires-2
+      (λ c κs. (omega (arith, expr-left), pair-lhs _ _ _ _ (c .before .before .before .pre .1) (inl (c .match .keys3))))  -- eval-const-int-requires-2
       (λ c. omega (arith, expr-left))  -- sub-eval-const-int-3: let r = eval_const_int(tree, l.next, left - 1);
-      (λ c κs. (omega (arith, expr-left), binary-rhs _ _ _ _ (c .before .before .before .before .pre .1) (c .before .match .keys3) _ (c .eval-const-int2 .ensures .next)))  -- eval-const-int-requires-3
+      (λ c κs. (omega (arith, expr-left), pair-rhs _ _ _ _ (c .before .before .before .before .pre .1) (inl (c .before .match .keys3)) _ (c .eval-const-int2 .ensures .next)))  -- eval-const-int-requires-3
       (λ c. omega (arith, expr-in))  -- add-combine: value: combine(tree[at + 1], a, b),
-      (λ c. let i = expr-in _ _ _ _ (binary-lhs _ _ _ _ (c .before .before .before .before .before .before .pre .1) (c .before .before .before .match .keys3)) in omega arith)  -- shared-slice-read-combine
+      (λ c. let i = expr-in _ _ _ _ (pair-lhs _ _ _ _ (c .before .before .before .before .before .before .pre .1) (inl (c .before .before .before .match .keys3))) in omega arith)  -- shared-slice-read-combine
       (λ c κs. search needs)  -- combine-requires
-      (λ c. let i = binary-inside _ _ _ _ (c .before .before .before .before .before .before .before .before .pre .1) (c .before .before .before .before .before .match .keys3) _ (c .before .before .before .before .eval-const-int2 .ensures .next) _ (c .before .before .before .eval-const-int3 .ensures .next) in omega arith)  -- add-t21: next: r.next + 8,
+      (λ c. let i = pair-inside _ _ _ _ (c .before .before .before .before .before .before .before .before .pre .1) (inl (c .before .before .before .before .before .match .keys3)) _ (c .before .before .before .before .eval-const-int2 .ensures .next) _ (c .before .before .before .eval-const-int3 .ensures .next) in omega arith)  -- add-t21: next: r.next + 8,
       (λ c κs. c .before .before .before .pre .1)  -- skip-expr-requires: next: skip_expr(tree, at, left),
       (λ c. int-value _ _ _ _ (c .before .before .before .before .before .pre .1) (c .before .before .match .keys1) _ (c .before .u64-at .ensures) _ (c .from-u64 .ensures))  -- returns
       (λ c. neg-value _ _ _ _ (c .before .before .before .before .before .before .pre .1) (c .before .before .before .match .keys2) _ (c .before .before .eval-const-int .ensures) _ (c .before .negate .ensures))  -- returns-2

@@ -1,6 +1,6 @@
 -- `operands::use_operand` meets its contract. Assumes nothing.
 use Rattle.promises.specs.Emitted.{emitted-then}
-use Rattle.operands.proofs.Quiet.{use-alone}
+use Rattle.operands.proofs.Checks.{use-alone}
 use borrow.Author.Needs.{needs}
 use Rattle.operands.proofs.use_operand.Statement.{statement}
 use Rattle.operands.proofs.use_operand.Tie as tie

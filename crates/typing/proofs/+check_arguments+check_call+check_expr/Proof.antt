@@ -6,12 +6,12 @@ use lib.ListN.{length}
 use Rattle.tree.specs.Decode.{textsOf}
 use Rattle.context.specs.View.{scopesOf, functionsOf}
 use Rattle.tables.specs.Tables.{paramsOf}
-use Rattle.text.proofs.Unlike.{last-case}
+use Rattle.text.proofs.Unlike.{unlike}
 use Rattle.accepted.specs.Fields.{counted-in}
-use Rattle.accepted.specs.Exprs.{expr-in, expr-below, expr-left, intLit-inside, floatLit-inside, boolLit-inside, ident-inside, ident-name, index-inside, index-name, call-name, call-name-in, call-args, call-inside, const-inside, neg-inner, neg-inside, binary-lhs, binary-rhs, binary-inside, compare-lhs, compare-rhs, compare-inside}
+use Rattle.accepted.specs.Exprs.{expr-in, expr-left, intLit-inside, floatLit-inside, boolLit-inside, ident-inside, ident-name, index-inside, index-name, call-name, call-name-in, call-args, call-inside, const-inside, neg-inner, neg-inside, operation, pair-lhs, pair-rhs, pair-inside}
 use Rattle.typing.proofs.Names.{name-below}
-use Rattle.typing.proofs.Spans.{span-room, span-in}
-use Rattle.typing.proofs.Exprs.{int-typing, float-typing, bool-typing, const-typing, ident-typing, index-typing, neg-typing, binary-typing, compare-typing}
+use Rattle.accepted.specs.Spans.{span-room, span-in}
+use Rattle.typing.proofs.Exprs.{int-typing, float-typing, bool-typing, const-typing, ident-typing, index-typing, neg-typing, pair-typing}
 use Rattle.typing.proofs.Arguments.{Arguing, arguing-start, arguing-first, arguing-more, arguing-end, call-typing}
 use borrow.Author.Needs.{needs}
 use borrow.Fn.Kinds.{In, Out}
@@ -22,6 +22,7 @@ use Rattle.typing.proofs.check_call.Reads as check-call
 use Rattle.typing.proofs.+check_arguments+check_call+check_expr.Lts-check_call as check-call-lts
 use Rattle.typing.proofs.check_expr.Reads as check-expr
 use Rattle.typing.proofs.+check_arguments+check_call+check_expr.Lts-check_expr as check-expr-lts
+use Rattle.text.proofs as text
 use Rattle.accepted.proofs as accepted
 use Rattle.typing.proofs as fns
 use Rattle.typing.proofs.+check_arguments+check_call+check_expr.{statement}
@@ -62,7 +63,7 @@ module _ (t : ℕ) where
   check-expr-below κs a = (μ-check-expr κs a < t) × check-expr.Pre κs a
 
   abbrev check-arguments-calls : check-arguments-lts.Claims
-  check-arguments-calls = (accepted.numbers.wide.Reads.Asked, accepted.numbers.wide.Reads.Learnt, check-expr-below, check-expr.Post, fns.calls.check_argument.Reads.Asked, fns.calls.check_argument.Reads.Learnt)
+  check-arguments-calls = (text.wide.Reads.Asked, text.wide.Reads.Learnt, check-expr-below, check-expr.Post, fns.calls.check_argument.Reads.Asked, fns.calls.check_argument.Reads.Learnt)
 
   abbrev check-arguments-asks : (check-arguments-lts.Claims → In 4 check-arguments-lts.ps → Out 4 check-arguments-lts.ps check-arguments-lts.r → check-arguments-lts.InvT-loop → check-arguments-lts.MeasureT-loop → Type 0) → Type 0
   check-arguments-asks Need = Need check-arguments-calls check-arguments-at check-arguments.Post check-arguments-Inv-loop check-arguments-μ-loop
@@ -91,7 +92,7 @@ module _ (t : ℕ) where
       (λ c. arguing-end (c .before .loop .inv .0) (c .loop-test .left))  -- returns
 
   abbrev check-call-calls : check-call-lts.Claims
-  check-call-calls = (accepted.numbers.u16_at.Reads.Asked, accepted.numbers.u16_at.Reads.Learnt, accepted.exprs.skip_exprs.Reads.Asked, accepted.exprs.skip_exprs.Reads.Learnt, accepted.numbers.span_at.Reads.Asked, accepted.numbers.span_at.Reads.Learnt, accepted.numbers.wide.Reads.Asked, accepted.numbers.wide.Reads.Learnt, fns.calls.check_callee.Reads.Asked, fns.calls.check_callee.Reads.Learnt, check-arguments-below, check-arguments.Post)
+  check-call-calls = (accepted.numbers.u16_at.Reads.Asked, accepted.numbers.u16_at.Reads.Learnt, accepted.exprs.skip_exprs.Reads.Asked, accepted.exprs.skip_exprs.Reads.Learnt, accepted.numbers.span_at.Reads.Asked, accepted.numbers.span_at.Reads.Learnt, text.wide.Reads.Asked, text.wide.Reads.Learnt, fns.calls.check_callee.Reads.Asked, fns.calls.check_callee.Reads.Learnt, check-arguments-below, check-arguments.Post)
 
   abbrev check-call-asks : (check-call-lts.Claims → In 4 check-call-lts.ps → Out 4 check-call-lts.ps check-call-lts.r → Type 0) → Type 0
   check-call-asks Need = Need check-call-calls check-call-at check-call.Post
@@ -133,7 +134,7 @@ module _ (t : ℕ) where
       check-call-returns
 
   abbrev check-expr-calls : check-expr-lts.Claims
-  check-expr-calls = (fns.cases.has_type.Reads.Asked, fns.cases.has_type.Reads.Learnt, fns.cases.check_ident.Reads.Asked, fns.cases.check_ident.Reads.Learnt, fns.cases.check_index.Reads.Asked, fns.cases.check_index.Reads.Learnt, check-call-below, check-call.Post, check-expr-below, check-expr.Post, fns.cases.negation.Reads.Asked, fns.cases.negation.Reads.Learnt, fns.cases.arithmetic.Reads.Asked, fns.cases.arithmetic.Reads.Learnt, fns.cases.comparison.Reads.Asked, fns.cases.comparison.Reads.Learnt)
+  check-expr-calls = (fns.cases.has_type.Reads.Asked, fns.cases.has_type.Reads.Learnt, fns.cases.check_ident.Reads.Asked, fns.cases.check_ident.Reads.Learnt, fns.cases.check_index.Reads.Asked, fns.cases.check_index.Reads.Learnt, check-call-below, check-call.Post, check-expr-below, check-expr.Post, fns.cases.negation.Reads.Asked, fns.cases.negation.Reads.Learnt, fns.cases.operation.Reads.Asked, fns.cases.operation.Reads.Learnt)
 
   abbrev check-expr-asks : (check-expr-lts.Claims → In 4 check-expr-lts.ps → Out 4 check-expr-lts.ps check-expr-lts.r → Type 0) → Type 0
   check-expr-asks Need = Need check-expr-calls check-expr-at check-expr.Post
@@ -151,22 +152,13 @@ module _ (t : ℕ) where
   check-expr-negation-requires c κs = let p = c .before .before .before .before .before .before .before .before .before .before .before .pre .1 in (p .0 .texts, c .before .before .before .check-expr .ensures .emitted .fits, neg-inside _ _ _ _ (p .2) (c .before .before .before .before .before .match .keys8) _ (c .before .before .before .check-expr .ensures .next))
 
   check-expr-check-expr-requires-2 : check-expr-asks check-expr-lts.Need-check-expr-requires-2
-  check-expr-check-expr-requires-2 c κs = let p = c .before .before .before .before .before .before .before .pre .1 in let l = expr-left _ _ _ _ (p .2) in (omega arith, (p .0, p .1, binary-lhs _ _ _ _ (p .2) (c .before .match .keys9)))
+  check-expr-check-expr-requires-2 c κs = let p = c .before .before .before .before .before .before .before .pre .1 in let l = expr-left _ _ _ _ (p .2) in (omega arith, (p .0, p .1, pair-lhs _ _ _ _ (p .2) (operation _ _ _ _ (p .2) (unlike 8 _ (c .before .match .rest)))))
 
   check-expr-check-expr-requires-3 : check-expr-asks check-expr-lts.Need-check-expr-requires-3
-  check-expr-check-expr-requires-3 c κs = let p = c .before .before .before .before .before .before .before .before .before .before .before .before .pre .1 in let l = expr-left _ _ _ _ (p .2) in (omega arith, (p .0, c .before .before .before .before .check-expr2 .ensures .emitted .fits, binary-rhs _ _ _ _ (p .2) (c .before .before .before .before .before .before .match .keys9) _ (c .before .before .before .before .check-expr2 .ensures .next)))
+  check-expr-check-expr-requires-3 c κs = let p = c .before .before .before .before .before .before .before .before .before .before .before .before .pre .1 in let l = expr-left _ _ _ _ (p .2) in (omega arith, (p .0, c .before .before .before .before .check-expr2 .ensures .emitted .fits, pair-rhs _ _ _ _ (p .2) (operation _ _ _ _ (p .2) (unlike 8 _ (c .before .before .before .before .before .before .match .rest))) _ (c .before .before .before .before .check-expr2 .ensures .next)))
 
-  check-expr-arithmetic-requires : check-expr-asks check-expr-lts.Need-arithmetic-requires
-  check-expr-arithmetic-requires c κs = let p = c .before .before .before .before .before .before .before .before .before .before .before .before .before .before .before .before .pre .1 in (p .0 .texts, c .before .before .before .check-expr3 .ensures .emitted .fits, binary-inside _ _ _ _ (p .2) (c .before .before .before .before .before .before .before .before .before .before .match .keys9) _ (c .before .before .before .before .before .before .before .before .check-expr2 .ensures .next) _ (c .before .before .before .check-expr3 .ensures .next))
-
-  check-expr-check-expr-requires-4 : check-expr-asks check-expr-lts.Need-check-expr-requires-4
-  check-expr-check-expr-requires-4 c κs = let p = c .before .before .before .before .before .before .before .pre .1 in let l = expr-left _ _ _ _ (p .2) in (omega arith, (p .0, p .1, compare-lhs _ _ _ _ (p .2) (last-case 9 _ (c .before .match .rest) (expr-below _ _ _ _ (p .2)))))
-
-  check-expr-check-expr-requires-5 : check-expr-asks check-expr-lts.Need-check-expr-requires-5
-  check-expr-check-expr-requires-5 c κs = let p = c .before .before .before .before .before .before .before .before .before .before .before .before .pre .1 in let l = expr-left _ _ _ _ (p .2) in (omega arith, (p .0, c .before .before .before .before .check-expr4 .ensures .emitted .fits, compare-rhs _ _ _ _ (p .2) (last-case 9 _ (c .before .before .before .before .before .before .match .rest) (expr-below _ _ _ _ (p .2))) _ (c .before .before .before .before .check-expr4 .ensures .next)))
-
-  check-expr-comparison-requires : check-expr-asks check-expr-lts.Need-comparison-requires
-  check-expr-comparison-requires c κs = let p = c .before .before .before .before .before .before .before .before .before .before .before .before .before .before .before .before .pre .1 in (p .0 .texts, c .before .before .before .check-expr5 .ensures .emitted .fits, compare-inside _ _ _ _ (p .2) (last-case 9 _ (c .before .before .before .before .before .before .before .before .before .before .match .rest) (expr-below _ _ _ _ (p .2))) _ (c .before .before .before .before .before .before .before .before .check-expr4 .ensures .next) _ (c .before .before .before .check-expr5 .ensures .next))
+  check-expr-operation-requires : check-expr-asks check-expr-lts.Need-operation-requires
+  check-expr-operation-requires c κs = let p = c .before .before .before .before .before .before .before .before .before .before .before .before .before .before .before .before .before .pre .1 in (p .0 .texts, c .before .before .before .before .check-expr3 .ensures .emitted .fits, pair-inside _ _ _ _ (p .2) (operation _ _ _ _ (p .2) (unlike 8 _ (c .before .before .before .before .before .before .before .before .before .before .before .match .rest))) _ (c .before .before .before .before .before .before .before .before .before .check-expr2 .ensures .next) _ (c .before .before .before .before .check-expr3 .ensures .next))
 
   check-expr-returns-2 : check-expr-asks check-expr-lts.Need-returns-2
   check-expr-returns-2 c = let p = c .before .before .before .before .before .before .before .pre .1 in float-typing _ _ _ _ (p .2) (p .1) (c .before .match .keys2) (c .has-type2 .ensures)
@@ -184,10 +176,7 @@ module _ (t : ℕ) where
   check-expr-returns-8 c = neg-typing _ _ _ _ (c .before .before .before .before .before .before .before .before .before .before .before .before .before .before .pre .1 .2) (c .before .before .before .before .before .before .before .before .match .keys8) (c .before .before .before .before .before .before .check-expr .ensures) (c .before .before .negation .ensures)
 
   check-expr-returns-9 : check-expr-asks check-expr-lts.Need-returns-9
-  check-expr-returns-9 c = binary-typing _ _ _ _ (c .before .before .before .before .before .before .before .before .before .before .before .before .before .before .before .before .before .before .before .pre .1 .2) (c .before .before .before .before .before .before .before .before .before .before .before .before .before .match .keys9) (c .before .before .before .before .before .before .before .before .before .before .before .check-expr2 .ensures) (c .before .before .before .before .before .before .check-expr3 .ensures) (c .before .before .arithmetic .ensures)
-
-  check-expr-returns-10 : check-expr-asks check-expr-lts.Need-returns-10
-  check-expr-returns-10 c = let p = c .before .before .before .before .before .before .before .before .before .before .before .before .before .before .before .before .before .before .before .pre .1 in compare-typing _ _ _ _ (p .2) (last-case 9 _ (c .before .before .before .before .before .before .before .before .before .before .before .before .before .match .rest) (expr-below _ _ _ _ (p .2))) (c .before .before .before .before .before .before .before .before .before .before .before .check-expr4 .ensures) (c .before .before .before .before .before .before .check-expr5 .ensures) (c .before .before .comparison .ensures)
+  check-expr-returns-9 c = let h = c .before .before .before .before .before .before .before .before .before .before .before .before .before .before .before .before .before .before .before .before .pre .1 .2 in pair-typing _ _ _ _ h (operation _ _ _ _ h (unlike 8 _ (c .before .before .before .before .before .before .before .before .before .before .before .before .before .before .match .rest))) (c .before .before .before .before .before .before .before .before .before .before .before .before .check-expr2 .ensures) (c .before .before .before .before .before .before .before .check-expr3 .ensures) (c .before .before .operation .ensures)
 
   check-expr-closed : {M : Type 1} → check-expr-lts.Closed check-expr-calls check-expr-at check-expr.Post M
   check-expr-closed =
@@ -210,12 +199,9 @@ module _ (t : ℕ) where
       (λ c. let l = expr-left _ _ _ _ (c .before .before .before .before .before .before .before .pre .1 .2) in omega arith)  -- sub-check-expr-2
       check-expr-check-expr-requires-2
       (λ c. let l = expr-left _ _ _ _ (c .before .before .before .before .before .before .before .before .before .before .before .before .pre .1 .2) in omega arith)  -- sub-check-expr-3: let r = check_expr(tree, index, scratch, out, depth, l.next, ..
-      check-expr-check-expr-requires-3 check-expr-arithmetic-requires
-      (λ c. let i = expr-in _ _ _ _ (c .before .before .before .before .before .before .before .pre .1 .2) in omega arith)  -- add-check-expr-3: let l = check_expr(tree, index, scratch, out, depth, at + 2, ..
-      (λ c. let l = expr-left _ _ _ _ (c .before .before .before .before .before .before .before .pre .1 .2) in omega arith)  -- sub-check-expr-4
-      check-expr-check-expr-requires-4
-      (λ c. let l = expr-left _ _ _ _ (c .before .before .before .before .before .before .before .before .before .before .before .before .pre .1 .2) in omega arith)  -- sub-check-expr-5: let r = check_expr(tree, index, scratch, out, depth, l.next, ..
-      check-expr-check-expr-requires-5 check-expr-comparison-requires
+      check-expr-check-expr-requires-3
+      (λ c. expr-in _ _ _ _ (c .before .before .before .before .before .before .before .before .before .before .before .before .before .before .before .before .before .pre .1 .2))  -- shared-slice-read-operation: cases::operation(tree, index, out, tree[at], lhs, r)
+      check-expr-operation-requires
       (λ c. let p = c .before .before .before .before .before .before .before .pre .1 in int-typing _ _ _ _ (p .2) (p .1) (c .before .match .keys1) (c .has-type .ensures))  -- returns: pub fn check_expr(
       check-expr-returns-2
       (λ c. let p = c .before .before .before .before .before .before .before .pre .1 in bool-typing _ _ _ _ (p .2) (p .1) (c .before .match .keys3) (c .has-type3 .ensures))  -- returns-3
@@ -230,8 +216,6 @@ module _ (t : ℕ) where
       check-expr-returns-8
       (λ c. search needs)  -- same-length-5
       check-expr-returns-9
-      (λ c. search needs)  -- same-length-6
-      check-expr-returns-10
 
 pub +check-arguments+check-call+check-expr-spec : {M : Type 1} → statement M
 +check-arguments+check-call+check-expr-spec =

@@ -1,3 +1,4 @@
+-- The cycle of statements and bodies meets its contracts. Assumes nothing.
 use Rattle.text.proofs.Unlike.{last-from}
 use Prim.Native.Nat.{ℕ, _<_, _+_, _-_, _*_}
 use mathlib.Core.Path.{_≡_, refl, sym, _∙_}
@@ -14,10 +15,10 @@ use Rattle.walk.specs.Bodies.{ElseOpened}
 use Rattle.accepted.specs.Bodies.{body-in, else-in, stmt-in, stmt-below, stmt-left}
 use Rattle.walk.proofs.Plain.{late}
 use Rattle.walk.proofs.Loop.{Going, ready-as, going-as, going-start, going-stmt, going-keyed, going-more, going-end}
-use Rattle.walk.proofs.Enclosed.{opened-ready}
-use Rattle.walk.proofs.Held.{body-held, body-room, body-keyed, loop-united}
-use Rattle.walk.proofs.Cases.{gate-holds, gate-walked, for-holds, for-walked, while-holds, while-walked, none-walked, some-held, some-keyed, some-walked}
-use Rattle.walk.proofs.Branches.{then-held, then-keyed, else-held, else-ready, else-keyed, if-room, if-walked}
+use Rattle.walk.proofs.Enclosed.{opened-as}
+use Rattle.walk.proofs.Held.{body-asked, body-room, loop-united}
+use Rattle.walk.proofs.Cases.{gate-is, gate-holds, gate-walked, for-is, for-holds, for-walked, while-is, while-holds, while-walked, else-holds, none-walked, some-walked}
+use Rattle.walk.proofs.Branches.{then-holds, else-held, else-ready, else-keyed, if-room, if-walked}
 use borrow.Author.Needs.{needs}
 use borrow.Fn.Kinds.{In}
 use borrow.Fn.PlainCycle.{Measures}
@@ -42,6 +43,7 @@ use Rattle.bodies.proofs as bodies
 use Rattle.sheet.proofs as sheet
 use Rattle.tables.proofs as tables
 use Rattle.walk.proofs.is_plain.Reads as is_plain
+use Rattle.walk.proofs.moved.Reads as moved
 use Rattle.walk.proofs.plain_stmt.Reads as plain_stmt
 use Rattle.walk.proofs.+analyze_stmts+body_stmt+branch+branch_else+for_loop+gate_def+loop_body+while_loop.{statement}
 use Rattle.walk.proofs.+analyze_stmts+body_stmt+branch+branch_else+for_loop+gate_def+loop_body+while_loop.Tie.{close}
@@ -193,38 +195,38 @@ module _ (t : ℕ) where
       analyze-stmts-returns
 
   abbrev gate-def-calls : gate-def-lts.Claims
-  gate-def-calls = (bodies.open_gate.Reads.Asked, bodies.open_gate.Reads.Learnt, analyze-stmts-below, analyze-stmts.Post)
+  gate-def-calls = (bodies.open_gate.Reads.Asked, bodies.open_gate.Reads.Learnt, moved.Asked, moved.Learnt, analyze-stmts-below, analyze-stmts.Post)
 
   gate-def-open-gate-requires : gate-def-lts.Need-open-gate-requires gate-def-calls gate-def-at gate-def.Post
-  gate-def-open-gate-requires c κs = let p = c .before .before .before .before .before .before .before .pre .1 .0 in (p .0 .texts, p .0 .small, p .1 .room, p .1 .fits, p .2, p .3, p .4)
+  gate-def-open-gate-requires c κs = let p = c .before .before .before .before .before .before .pre .1 .0 in (p .0 .texts, p .0 .small, p .1 .room, p .1 .fits, p .2, p .3, p .4)
 
   gate-def-analyze-stmts-requires : gate-def-lts.Need-analyze-stmts-requires gate-def-calls gate-def-at gate-def.Post
   gate-def-analyze-stmts-requires c κs =
-      let s = c .before .before .before .before .before .before .before .before .before .before .before .before .before .before .before in
+      let s = c .before .before .before .before .before .before .before .before .before .before .before .before .before .before in
       let p = s .pre .1 in
-      let g = c .before .before .before .before .before .before .before .open-gate .ensures (s .args .st .marks) in
+      let g = opened-as (c .before .before .before .before .before .before .before .open-gate .ensures (s .args .st .marks)) _ (c .before .before .moved .ensures) in
       let h = gate-holds _ _ _ (p .0 .2) (p .0 .4) in
-      (omega (arith, h .some), ((p .0 .0, opened-ready _ [] g (p .0 .1), body-held _ [] 0 _ (p .0 .3) _ h g, omega arith), body-keyed _ _ _ _ (p .0 .3) _ h g (p .1)))
+      (omega (arith, h .some), body-asked _ _ _ _ (p .0 .3) h g (p .0 .0) (p .0 .1) (p .1))
 
   gate-def-add-r : gate-def-lts.Need-add-r gate-def-calls gate-def-at gate-def.Post
   gate-def-add-r c =
-      let s = c .before .before .before .before .before .before .before .before .before .before .before .before .before .before .before .before .before .before .before .before .before in
-      let p = s .pre .1 in
-      let g = c .before .before .before .before .before .before .before .before .before .before .before .before .before .open-gate .ensures (s .args .st .marks) in
-      let h = gate-holds _ _ _ (p .0 .2) (p .0 .4) in
-      omega (arith, body-room _ [] 0 _ (p .0 .3) _ h g, c .before .before .before .before .before .analyze-stmts .ensures .at, p .0 .0 .small)
+      let s = c .before .before .before .before .before .before .before .before .before .before .before .before .before .before .before .before .before .before .before .before in
+      let p = s .pre .1 .0 in
+      let g = opened-as (c .before .before .before .before .before .before .before .before .before .before .before .before .before .open-gate .ensures (s .args .st .marks)) _ (c .before .before .before .before .before .before .before .before .moved .ensures) in
+      omega (arith, body-room _ _ _ (gate-is _ _ _ (p .2) (p .4)) (p .2) _ (g .at), c .before .before .before .before .before .analyze-stmts .ensures .at, p .0 .small)
 
   gate-def-returns : gate-def-lts.Need-returns gate-def-calls gate-def-at gate-def.Post
   gate-def-returns c =
-      let s = c .before .before .before .before .before .before .before .before .before .before .before .before .before .before .before .before .before .before .before .before .before in
+      let s = c .before .before .before .before .before .before .before .before .before .before .before .before .before .before .before .before .before .before .before .before in
       let p = s .pre .1 .0 in
-      gate-walked _ _ _ _ _ (p .2) (p .3) (p .4) (c .before .before .before .before .before .before .before .before .before .before .before .before .before .open-gate .ensures (s .args .st .marks)) (c .before .before .before .before .before .analyze-stmts .ensures) _ refl refl refl
+      gate-walked _ _ _ _ _ (p .2) (p .3) (p .4) (opened-as (c .before .before .before .before .before .before .before .before .before .before .before .before .before .open-gate .ensures (s .args .st .marks)) _ (c .before .before .before .before .before .before .before .before .moved .ensures)) (c .before .before .before .before .before .analyze-stmts .ensures) _ refl refl refl
 
   gate-def-closed : {M : Type 1} → gate-def-lts.Closed gate-def-calls gate-def-at gate-def.Post M
   gate-def-closed =
       gate-def-lts.spec gate-def-calls gate-def-at gate-def.Post
       gate-def-open-gate-requires
-      (λ c. omega (arith, stmt-left _ _ _ _ (c .before .before .before .before .before .before .before .before .before .before .before .before .before .before .before .pre .1 .0 .2)))  -- sub-analyze-stmts
+      (λ c κs. search needs)  -- moved-requires
+      (λ c. omega (arith, stmt-left _ _ _ _ (c .before .before .before .before .before .before .before .before .before .before .before .before .before .before .pre .1 .0 .2)))  -- sub-analyze-stmts
       gate-def-analyze-stmts-requires gate-def-add-r
       (λ c. search needs) (λ c. search needs)  -- same-length, same-length-2
       gate-def-returns
@@ -242,60 +244,64 @@ module _ (t : ℕ) where
   loop-body-closed : {M : Type 1} → loop-body-lts.Closed loop-body-calls loop-body-at loop-body.Post M
   loop-body-closed =
       loop-body-lts.spec loop-body-calls loop-body-at loop-body.Post
-      (λ c κs. let p = c .before .before .before .before .before .before .pre .1 in (omega arith, ((p .0 .0, p .0 .1, p .0 .2, p .0 .3), p .1)))  -- analyze-stmts-requires
+      (λ c κs. let p = c .before .before .before .before .before .before .pre .1 in (omega arith, (p .0, p .1 .0)))  -- analyze-stmts-requires
       (λ c κs. (c .before .before .before .before .before .before .before .before .before .before .before .before .before .before .pre .1 .0 .1 .placed .whole, c .before .before .before .before .before .before .before .analyze-stmts .ensures .placed .whole))  -- unite-requires
-      (λ c. let p = c .before .before .before .before .before .before .before .before .before .before .before .before .before .before .before .pre .1 .0 in omega (arith, c .before .before .before .before .before .before .before .before .analyze-stmts .ensures .at, p .4, p .0 .small))  -- add-r
+      (λ c. let p = c .before .before .before .before .before .before .before .before .before .before .before .before .before .before .before .pre .1 in omega (arith, c .before .before .before .before .before .before .before .before .analyze-stmts .ensures .at, p .1 .1, p .0 .0 .small))  -- add-r
       (λ c. search needs) (λ c. search needs)  -- same-length, same-length-2
       loop-body-returns
 
   abbrev for-loop-calls : for-loop-lts.Claims
-  for-loop-calls = (bodies.open_for.Reads.Asked, bodies.open_for.Reads.Learnt, loop-body-below, loop-body.Post)
+  for-loop-calls = (bodies.open_for.Reads.Asked, bodies.open_for.Reads.Learnt, moved.Asked, moved.Learnt, loop-body-below, loop-body.Post)
 
   for-loop-open-for-requires : for-loop-lts.Need-open-for-requires for-loop-calls for-loop-at for-loop.Post
-  for-loop-open-for-requires c κs = let p = c .before .before .before .before .before .before .before .pre .1 .0 in (p .0 .texts, p .0 .small, p .1 .room, p .1 .fits, p .2, p .3, p .4)
+  for-loop-open-for-requires c κs = let p = c .before .before .before .before .before .before .pre .1 .0 in (p .0 .texts, p .0 .small, p .1 .room, p .1 .fits, p .2, p .3, p .4)
 
   for-loop-loop-body-requires : for-loop-lts.Need-loop-body-requires for-loop-calls for-loop-at for-loop.Post
   for-loop-loop-body-requires c κs =
-      let s = c .before .before .before .before .before .before .before .before .before .before .before .before .before .before .before in
+      let s = c .before .before .before .before .before .before .before .before .before .before .before .before .before .before in
       let p = s .pre .1 in
-      let g = c .before .before .before .before .before .before .before .open-for .ensures (s .args .st .marks) in
+      let g = opened-as (c .before .before .before .before .before .before .before .open-for .ensures (s .args .st .marks)) _ (c .before .before .moved .ensures) in
       let h = for-holds _ _ _ (p .0 .2) (p .0 .4) in
-      (omega (arith, h .some), ((p .0 .0, opened-ready _ [] g (p .0 .1), body-held _ [] 0 _ (p .0 .3) _ h g, omega arith, body-room _ [] 0 _ (p .0 .3) _ h g), body-keyed _ _ _ _ (p .0 .3) _ h g (p .1)))
+      let a = body-asked _ _ _ _ (p .0 .3) h g (p .0 .0) (p .0 .1) (p .1) in
+      (omega (arith, h .some), (a .0, (a .1, body-room _ _ _ (for-is _ _ _ (p .0 .2) (p .0 .4)) (p .0 .2) _ (g .at))))
 
   for-loop-closed : {M : Type 1} → for-loop-lts.Closed for-loop-calls for-loop-at for-loop.Post M
   for-loop-closed =
       for-loop-lts.spec for-loop-calls for-loop-at for-loop.Post
       for-loop-open-for-requires
-      (λ c. omega (arith, stmt-left _ _ _ _ (c .before .before .before .before .before .before .before .before .before .before .before .before .before .before .before .pre .1 .0 .2)))  -- sub-loop-body
+      (λ c κs. search needs)  -- moved-requires
+      (λ c. omega (arith, stmt-left _ _ _ _ (c .before .before .before .before .before .before .before .before .before .before .before .before .before .before .pre .1 .0 .2)))  -- sub-loop-body
       for-loop-loop-body-requires
       (λ c. search needs) (λ c. search needs)  -- same-length, same-length-2
-      (λ c. let s = c .before .before .before .before .before .before .before .before .before .before .before .before .before .before .before .before .before .before .before .before in let p = s .pre .1 .0 in for-walked _ _ _ _ _ (p .2) (p .3) (p .4) (c .before .before .before .before .before .before .before .before .before .before .before .before .open-for .ensures (s .args .st .marks)) (c .before .before .before .before .loop-body .ensures))  -- returns
+      (λ c. let s = c .before .before .before .before .before .before .before .before .before .before .before .before .before .before .before .before .before .before .before in let p = s .pre .1 .0 in for-walked _ _ _ _ _ (p .2) (p .3) (p .4) (opened-as (c .before .before .before .before .before .before .before .before .before .before .before .before .open-for .ensures (s .args .st .marks)) _ (c .before .before .before .before .before .before .before .moved .ensures)) (c .before .before .before .before .loop-body .ensures))  -- returns
 
   abbrev while-loop-calls : while-loop-lts.Claims
-  while-loop-calls = (bodies.open_while.Reads.Asked, bodies.open_while.Reads.Learnt, loop-body-below, loop-body.Post)
+  while-loop-calls = (bodies.open_while.Reads.Asked, bodies.open_while.Reads.Learnt, moved.Asked, moved.Learnt, loop-body-below, loop-body.Post)
 
   while-loop-open-while-requires : while-loop-lts.Need-open-while-requires while-loop-calls while-loop-at while-loop.Post
-  while-loop-open-while-requires c κs = let p = c .before .before .before .before .before .before .before .pre .1 .0 in (p .0 .texts, p .0 .small, p .1 .room, p .1 .fits, p .2, p .3, p .4)
+  while-loop-open-while-requires c κs = let p = c .before .before .before .before .before .before .pre .1 .0 in (p .0 .texts, p .0 .small, p .1 .room, p .1 .fits, p .2, p .3, p .4)
 
   while-loop-loop-body-requires : while-loop-lts.Need-loop-body-requires while-loop-calls while-loop-at while-loop.Post
   while-loop-loop-body-requires c κs =
-      let s = c .before .before .before .before .before .before .before .before .before .before .before .before .before .before .before in
+      let s = c .before .before .before .before .before .before .before .before .before .before .before .before .before .before in
       let p = s .pre .1 in
-      let g = c .before .before .before .before .before .before .before .open-while .ensures (s .args .st .marks) in
+      let g = opened-as (c .before .before .before .before .before .before .before .open-while .ensures (s .args .st .marks)) _ (c .before .before .moved .ensures) in
       let h = while-holds _ _ _ (p .0 .2) (p .0 .4) in
-      (omega (arith, h .some), ((p .0 .0, opened-ready _ [] g (p .0 .1), body-held _ [] 0 _ (p .0 .3) _ h g, omega arith, body-room _ [] 0 _ (p .0 .3) _ h g), body-keyed _ _ _ _ (p .0 .3) _ h g (p .1)))
+      let a = body-asked _ _ _ _ (p .0 .3) h g (p .0 .0) (p .0 .1) (p .1) in
+      (omega (arith, h .some), (a .0, (a .1, body-room _ _ _ (while-is _ _ _ (p .0 .2) (p .0 .4)) (p .0 .2) _ (g .at))))
 
   while-loop-closed : {M : Type 1} → while-loop-lts.Closed while-loop-calls while-loop-at while-loop.Post M
   while-loop-closed =
       while-loop-lts.spec while-loop-calls while-loop-at while-loop.Post
       while-loop-open-while-requires
-      (λ c. omega (arith, stmt-left _ _ _ _ (c .before .before .before .before .before .before .before .before .before .before .before .before .before .before .before .pre .1 .0 .2)))  -- sub-loop-body
+      (λ c κs. search needs)  -- moved-requires
+      (λ c. omega (arith, stmt-left _ _ _ _ (c .before .before .before .before .before .before .before .before .before .before .before .before .before .before .pre .1 .0 .2)))  -- sub-loop-body
       while-loop-loop-body-requires
       (λ c. search needs) (λ c. search needs)  -- same-length, same-length-2
-      (λ c. let s = c .before .before .before .before .before .before .before .before .before .before .before .before .before .before .before .before .before .before .before .before in let p = s .pre .1 .0 in while-walked _ _ _ _ _ (p .2) (p .3) (p .4) (c .before .before .before .before .before .before .before .before .before .before .before .before .open-while .ensures (s .args .st .marks)) (c .before .before .before .before .loop-body .ensures))  -- returns
+      (λ c. let s = c .before .before .before .before .before .before .before .before .before .before .before .before .before .before .before .before .before .before .before in let p = s .pre .1 .0 in while-walked _ _ _ _ _ (p .2) (p .3) (p .4) (opened-as (c .before .before .before .before .before .before .before .before .before .before .before .before .open-while .ensures (s .args .st .marks)) _ (c .before .before .before .before .before .before .before .moved .ensures)) (c .before .before .before .before .loop-body .ensures))  -- returns
 
   abbrev branch-calls : branch-lts.Claims
-  branch-calls = (bodies.open_if.Reads.Asked, bodies.open_if.Reads.Learnt, analyze-stmts-below, analyze-stmts.Post, λ κs a. (μ-branch-else κs a < t) × branch-else.Pre κs a, branch-else.Post)
+  branch-calls = (bodies.open_if.Reads.Asked, bodies.open_if.Reads.Learnt, moved.Asked, moved.Learnt, analyze-stmts-below, analyze-stmts.Post, λ κs a. (μ-branch-else κs a < t) × branch-else.Pre κs a, branch-else.Post)
 
   branch-open-if-requires : branch-lts.Need-open-if-requires branch-calls branch-at branch.Post
   branch-open-if-requires c κs = let p = c .before .before .before .before .before .before .before .pre .1 .0 in (p .0 .texts, p .0 .small, p .1 .room, p .1 .fits, p .2, p .3, p .4)
@@ -304,14 +310,15 @@ module _ (t : ℕ) where
   branch-analyze-stmts-requires c κs =
       let s = c .before .before .before .before .before .before .before .before .before .before .before .before .before .before .before in
       let p = s .pre .1 in
-      let g = c .before .before .before .before .before .before .before .open-if .ensures (s .args .st .marks) in
-      (omega (arith, stmt-left _ _ _ _ (p .0 .2)), ((p .0 .0, opened-ready _ [] g (p .0 .1), then-held _ [] 0 _ _ (p .0 .2) (p .0 .3) (p .0 .4) _ _ _ _ _ g, omega arith), then-keyed _ _ _ _ _ (p .0 .2) (p .0 .3) (p .0 .4) _ _ _ _ _ g (p .1)))
+      let g = opened-as (c .before .before .before .before .before .before .before .open-if .ensures (s .args .t7 .marks)) _ (c .before .before .moved .ensures) in
+      let h = then-holds _ [] 0 _ (s .args .t7) (p .0 .2) (p .0 .3) (p .0 .4) in
+      (omega (arith, h .some), body-asked _ _ _ _ (p .0 .3) h g (p .0 .0) (p .0 .1) (p .1))
 
   branch-branch-else-requires : branch-lts.Need-branch-else-requires branch-calls branch-at branch.Post
   branch-branch-else-requires c κs =
       let s = c .before .before .before .before .before .before .before .before .before .before .before .before .before .before .before .before .before .before .before .before .before .before .before .before in
       let p = s .pre .1 in
-      let g = c .before .before .before .before .before .before .before .before .before .before .before .before .before .before .before .before .open-if .ensures (s .args .st .marks) in
+      let g = opened-as (c .before .before .before .before .before .before .before .before .before .before .before .before .before .before .before .before .open-if .ensures (s .args .t7 .marks)) _ (c .before .before .before .before .before .before .before .before .before .before .before .moved .ensures) in
       let v = c .before .before .before .before .before .before .before .before .analyze-stmts .ensures in
       (omega (arith, s .pre .0), ((p .0 .0, else-ready _ _ _ _ _ (p .0 .2) (p .0 .3) (p .0 .4) _ _ _ _ _ g _ _ _ v _ refl refl refl (p .0 .1), v .placed, else-held _ _ _ _ _ (p .0 .2) (p .0 .3) (p .0 .4) _ _ _ _ _ g _ _ _ v _ refl refl refl, stmt-left _ _ _ _ (p .0 .2), p .0 .3), else-keyed _ _ _ _ _ (p .0 .2) (p .0 .3) (p .0 .4) _ _ _ _ _ g _ _ _ v _ refl refl refl (p .1)))
 
@@ -319,7 +326,7 @@ module _ (t : ℕ) where
   branch-add-e c =
       let s = c .before .before .before .before .before .before .before .before .before .before .before .before .before .before .before .before .before .before .before .before .before .before .before .before .before .before .before .before .before .before in
       let p = s .pre .1 in
-      let g = c .before .before .before .before .before .before .before .before .before .before .before .before .before .before .before .before .before .before .before .before .before .before .open-if .ensures (s .args .st .marks) in
+      let g = opened-as (c .before .before .before .before .before .before .before .before .before .before .before .before .before .before .before .before .before .before .before .before .before .before .open-if .ensures (s .args .t7 .marks)) _ (c .before .before .before .before .before .before .before .before .before .before .before .before .before .before .before .before .before .moved .ensures) in
       let v = c .before .before .before .before .before .before .before .before .before .before .before .before .before .before .analyze-stmts .ensures in
       omega (arith, if-room _ _ _ _ _ (p .0 .2) (p .0 .3) (p .0 .4) _ _ _ _ _ g _ _ _ v _ refl refl refl _ _ _ (c .before .before .before .before .before .branch-else .ensures), p .0 .0 .small)
 
@@ -327,7 +334,7 @@ module _ (t : ℕ) where
   branch-returns c =
       let s = c .before .before .before .before .before .before .before .before .before .before .before .before .before .before .before .before .before .before .before .before .before .before .before .before .before .before .before .before .before .before in
       let p = s .pre .1 in
-      let g = c .before .before .before .before .before .before .before .before .before .before .before .before .before .before .before .before .before .before .before .before .before .before .open-if .ensures (s .args .st .marks) in
+      let g = opened-as (c .before .before .before .before .before .before .before .before .before .before .before .before .before .before .before .before .before .before .before .before .before .before .open-if .ensures (s .args .t7 .marks)) _ (c .before .before .before .before .before .before .before .before .before .before .before .before .before .before .before .before .before .moved .ensures) in
       let v = c .before .before .before .before .before .before .before .before .before .before .before .before .before .before .analyze-stmts .ensures in
       if-walked _ _ _ _ _ (p .0 .2) (p .0 .3) (p .0 .4) _ _ _ _ _ g _ _ _ v _ refl refl refl _ _ _ (c .before .before .before .before .before .branch-else .ensures) _ refl refl refl
 
@@ -335,6 +342,7 @@ module _ (t : ℕ) where
   branch-closed =
       branch-lts.spec branch-calls branch-at branch.Post
       branch-open-if-requires
+      (λ c κs. search needs)  -- moved-requires
       (λ c. omega (arith, stmt-left _ _ _ _ (c .before .before .before .before .before .before .before .before .before .before .before .before .before .before .before .pre .1 .0 .2)))  -- sub-analyze-stmts
       branch-analyze-stmts-requires branch-branch-else-requires branch-add-e
       (λ c. omega (arith, c .before .before .before .before .before .before .before .before .before .before .before .before .before .before .before .before .before .before .before .before .before .scratch .given, c .before .before .before .before .before .before .before .before .before .before .before .before .before .scratch2 .given, c .before .before .before .before .scratch3 .given))  -- same-length
@@ -357,7 +365,7 @@ module _ (t : ℕ) where
       let b = c .before .before .before .before .before .before .before .before .if1 .left in
       let st = stateOf (s .args .t .at) (s .args .t .sink) _ in
       let o : (t : List Text) → ElseOpened t (s .args .left) st _ [] (stateOf (s .args .t .at + 1) (s .args .t .sink) _) _ [] = λ t. (record { at = refl; marks = refl; emitted = emitted-none (p .1 .fits); becomes = c .before .before .before .before .before .before .enter .ensures }) in
-      (omega (arith, p .4), ((p .0, opened-ready _ [] (o []) (p .1), some-held _ [] 0 _ [] st _ [] (p .4) (p .5) (p .3) b _ _ (o _), omega arith), some-keyed _ _ _ _ [] st _ [] (p .4) (p .5) (p .3) b _ _ (o _) (s .pre .1 .1)))
+      (omega (arith, p .4), body-asked _ _ _ _ (p .5) (else-holds _ _ _ (p .4) (p .3) b) (o _) (p .0) (p .1) (s .pre .1 .1))
 
   branch-else-returns-2 : branch-else-lts.Need-returns-2 branch-else-calls branch-else-at branch-else.Post
   branch-else-returns-2 c =

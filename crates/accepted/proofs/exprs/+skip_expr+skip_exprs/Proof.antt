@@ -8,9 +8,8 @@ use Rattle.tree.specs.Decode.{textsOf}
 use Rattle.accepted.specs.Parts.{next-is}
 use Rattle.accepted.specs.Fields.{counted-in}
 use Rattle.accepted.specs.Remains.{Remains, remains-start, remains-more, remains-end}
-use Rattle.accepted.specs.Exprs.{expr-in, expr-left, args-first, intLit-inside, intLit-is, floatLit-inside, floatLit-is, boolLit-inside, boolLit-is, ident-inside, ident-is, index-inside, index-is, call-args, call-inside, call-is, const-inside, const-is, neg-inner, neg-inside, neg-is}
+use Rattle.accepted.specs.Exprs.{expr-in, expr-left, args-first, intLit-inside, intLit-is, floatLit-inside, floatLit-is, boolLit-inside, boolLit-is, ident-inside, ident-is, index-inside, index-is, call-args, call-inside, call-is, const-inside, const-is, neg-inner, neg-inside, neg-is, operation, pair-lhs, pair-rhs, pair-next, pair-inside}
 use Rattle.text.proofs.Unlike.{unlike}
-use Rattle.accepted.proofs.SkipExprs.{pair-lhs, pair-rhs, pair-inside, pair-next}
 use native.Mathlib.Omega.{arith}
 use borrow.Author.Needs.{needs}
 use borrow.Fn.Kinds.{In, Out}
@@ -19,6 +18,7 @@ use Rattle.accepted.proofs.exprs.skip_expr.Reads as skip-expr
 use Rattle.accepted.proofs.exprs.+skip_expr+skip_exprs.Lts-skip_expr as skip-expr-lts
 use Rattle.accepted.proofs.exprs.skip_exprs.Reads as skip-exprs
 use Rattle.accepted.proofs.exprs.+skip_expr+skip_exprs.Lts-skip_exprs as skip-exprs-lts
+use Rattle.text.proofs as text
 use Rattle.accepted.proofs as fns
 use Rattle.accepted.proofs.exprs.+skip_expr+skip_exprs.{statement}
 use Rattle.accepted.proofs.exprs.+skip_expr+skip_exprs.Tie.{close}
@@ -55,10 +55,10 @@ module _ (t : ℕ) where
   skip-expr-asks Need = Need skip-expr-calls skip-expr-at skip-expr.Post
 
   skip-expr-add-result-9 : skip-expr-asks skip-expr-lts.Need-add-result-9
-  skip-expr-add-result-9 c = let i = pair-inside _ _ _ _ (c .before .before .before .before .before .pre .1) (unlike 8 _ (c .before .before .match .rest)) _ (c .before .skip-expr2 .ensures) _ (c .skip-expr3 .ensures) in omega arith
+  skip-expr-add-result-9 c = let p = c .before .before .before .before .before .pre .1 in let i = pair-inside _ _ _ _ p (operation _ _ _ _ p (unlike 8 _ (c .before .before .match .rest))) _ (c .before .skip-expr2 .ensures) _ (c .skip-expr3 .ensures) in omega arith
 
   skip-expr-returns-9 : skip-expr-asks skip-expr-lts.Need-returns-9
-  skip-expr-returns-9 c = pair-next _ _ _ _ (c .before .before .before .before .before .pre .1) (unlike 8 _ (c .before .before .match .rest)) _ (c .before .skip-expr2 .ensures) _ (c .skip-expr3 .ensures)
+  skip-expr-returns-9 c = let p = c .before .before .before .before .before .pre .1 in pair-next _ _ _ _ p (operation _ _ _ _ p (unlike 8 _ (c .before .before .match .rest))) _ (c .before .skip-expr2 .ensures) _ (c .skip-expr3 .ensures)
 
   skip-expr-closed : {M : Type 1} → skip-expr-lts.Closed skip-expr-calls skip-expr-at skip-expr.Post M
   skip-expr-closed =
@@ -80,9 +80,9 @@ module _ (t : ℕ) where
       (λ c. let i = neg-inside _ _ _ _ (c .before .before .before .before .pre .1) (c .before .match .keys8) _ (c .skip-expr .ensures) in omega arith)  -- add-result-8
       (λ c. omega (arith, expr-in))  -- add-skip-expr-2: let k = skip_expr(s, at + 2, left - 1);
       (λ c. omega (arith, expr-left))  -- sub-skip-expr-2
-      (λ c κs. (omega (arith, expr-left), pair-lhs _ _ _ _ (c .before .before .before .pre .1) (unlike 8 _ (c .match .rest))))  -- skip-expr-requires-2
+      (λ c κs. let p = c .before .before .before .pre .1 in (omega (arith, expr-left), pair-lhs _ _ _ _ p (operation _ _ _ _ p (unlike 8 _ (c .match .rest)))))  -- skip-expr-requires-2
       (λ c. omega (arith, expr-left))  -- sub-skip-expr-3: skip_expr(s, k, left - 1) + 8
-      (λ c κs. (omega (arith, expr-left), pair-rhs _ _ _ _ (c .before .before .before .before .pre .1) (unlike 8 _ (c .before .match .rest)) _ (c .skip-expr2 .ensures)))  -- skip-expr-requires-3
+      (λ c κs. let p = c .before .before .before .before .pre .1 in (omega (arith, expr-left), pair-rhs _ _ _ _ p (operation _ _ _ _ p (unlike 8 _ (c .before .match .rest))) _ (c .skip-expr2 .ensures)))  -- skip-expr-requires-3
       skip-expr-add-result-9
       (λ c. sym (next-is (intLit-is _ _ _ _ (c .before .before .before .pre .1) (c .match .keys1))))  -- returns: pub fn skip_expr(s: &[u8], at: usize, left: usize) -> usize
       (λ c. sym (next-is (floatLit-is _ _ _ _ (c .before .before .before .pre .1) (c .match .keys2))))  -- returns-2
@@ -95,7 +95,7 @@ module _ (t : ℕ) where
       skip-expr-returns-9
 
   abbrev skip-exprs-calls : skip-exprs-lts.Claims
-  skip-exprs-calls = (fns.numbers.wide.Reads.Asked, fns.numbers.wide.Reads.Learnt, skip-expr-below, skip-expr.Post)
+  skip-exprs-calls = (text.wide.Reads.Asked, text.wide.Reads.Learnt, skip-expr-below, skip-expr.Post)
 
   skip-exprs-closed : {M : Type 1} → skip-exprs-lts.Closed skip-exprs-calls skip-exprs-at skip-exprs.Post M
   skip-exprs-closed =

@@ -1,4 +1,5 @@
 -- `operations::calls::check_standard` meets its contract. Assumes nothing.
+use native.Mathlib.Omega.{arith}
 use Rattle.operations.proofs.Arity.{standard-some, standard-none}
 use borrow.Author.Needs.{needs}
 use Rattle.operations.proofs.calls.check_standard.Statement.{statement}
@@ -7,7 +8,7 @@ use Rattle.operations.proofs.calls.check_standard.Tie as tie
 pub check-standard-spec : {M : Type 1} → statement M
 check-standard-spec =
     tie.close (tie.spec
-    (λ c κs. (c .before .before .before .pre .0, c .before .before .before .pre .1))  -- text-of-requires
+    (λ c κs. let p = c .before .before .before .pre in record { inside = omega (arith, p .0 .size, p .0 .few, p .1); text-at = p .0 .each _ (p .1) })  -- name-of-requires
     (λ c κs. tt)  -- standard-gate-signature-requires
     (λ c. search needs)  -- enum-known-standard
     (λ c κs. let p = c .before .before .before .before .before .before .before .before .before .pre in (p .0, p .1, tt, p .2))  -- check-arity-requires

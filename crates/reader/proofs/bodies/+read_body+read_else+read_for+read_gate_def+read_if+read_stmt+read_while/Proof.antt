@@ -219,7 +219,7 @@ module _ (t : ℕ) where
       (λ c. search (body-fields, runs-end))  -- returns-4: fn read_if(s: &[u8], kinds: &[u8], at: usize, left: usize) - ..
 
   abbrev read-stmt-calls : read-stmt-lts.Claims
-  read-stmt-calls = (reading.numbers.read_case.Reads.Asked, reading.numbers.read_case.Reads.Learnt, reading.answers.ReadByte.into_read.Reads.Asked, reading.answers.ReadByte.into_read.Reads.Learnt, forms.stmts.read_include.Reads.Asked, forms.stmts.read_include.Reads.Learnt, forms.stmts.read_qubit_decl.Reads.Asked, forms.stmts.read_qubit_decl.Reads.Learnt, forms.stmts.read_bit_decl.Reads.Asked, forms.stmts.read_bit_decl.Reads.Learnt, forms.stmts.read_classical_decl.Reads.Asked, forms.stmts.read_classical_decl.Reads.Learnt, forms.stmts.read_assignment.Reads.Asked, forms.stmts.read_assignment.Reads.Learnt, forms.stmts.read_gate_call.Reads.Asked, forms.stmts.read_gate_call.Reads.Learnt, read-gate-def-below, read-gate-def.Post, forms.stmts.read_function_def.Reads.Asked, forms.stmts.read_function_def.Reads.Learnt, forms.stmts.read_measure.Reads.Asked, forms.stmts.read_measure.Reads.Learnt, forms.stmts.read_reset.Reads.Asked, forms.stmts.read_reset.Reads.Learnt, forms.stmts.read_barrier.Reads.Asked, forms.stmts.read_barrier.Reads.Learnt, forms.stmts.read_delay.Reads.Asked, forms.stmts.read_delay.Reads.Learnt, read-if-below, read-if.Post, read-for-below, read-for.Post, read-while-below, read-while.Post)
+  read-stmt-calls = (reading.numbers.read_case.Reads.Asked, reading.numbers.read_case.Reads.Learnt, reading.answers.ReadByte.into_read.Reads.Asked, reading.answers.ReadByte.into_read.Reads.Learnt, forms.stmts.read_include.Reads.Asked, forms.stmts.read_include.Reads.Learnt, forms.stmts.read_register.Reads.Asked, forms.stmts.read_register.Reads.Learnt, forms.stmts.read_classical_decl.Reads.Asked, forms.stmts.read_classical_decl.Reads.Learnt, forms.stmts.read_assignment.Reads.Asked, forms.stmts.read_assignment.Reads.Learnt, forms.stmts.read_gate_call.Reads.Asked, forms.stmts.read_gate_call.Reads.Learnt, read-gate-def-below, read-gate-def.Post, forms.stmts.read_function_def.Reads.Asked, forms.stmts.read_function_def.Reads.Learnt, forms.stmts.read_measure.Reads.Asked, forms.stmts.read_measure.Reads.Learnt, forms.stmts.read_reset.Reads.Asked, forms.stmts.read_reset.Reads.Learnt, forms.stmts.read_barrier.Reads.Asked, forms.stmts.read_barrier.Reads.Learnt, forms.stmts.read_delay.Reads.Asked, forms.stmts.read_delay.Reads.Learnt, read-if-below, read-if.Post, read-for-below, read-for.Post, read-while-below, read-while.Post)
 
   read-stmt-closed : {M : Type 1} → read-stmt-lts.Closed read-stmt-calls read-stmt-at read-stmt.Post M
   read-stmt-closed =
@@ -231,8 +231,8 @@ module _ (t : ℕ) where
       (λ c. search statements)  -- returns
       (λ c. search statements)  -- returns-2: return Read::Refused(6, at);
       (λ c κs. search (needs, case-there))  -- read-include-requires: 0 => stmts::read_include(s, kinds, at),
-      (λ c κs. search (needs, case-there))  -- read-qubit-decl-requires: 1 => stmts::read_qubit_decl(s, kinds, at),
-      (λ c κs. search (needs, case-there))  -- read-bit-decl-requires: 2 => stmts::read_bit_decl(s, kinds, at),
+      (λ c κs. search (needs, case-there))  -- read-register-requires: 1 => stmts::read_register(s, kinds, at),
+      (λ c κs. search (needs, case-there))  -- read-register-requires-2: 2 => stmts::read_register(s, kinds, at),
       (λ c κs. search (needs, case-there))  -- read-classical-decl-requires: 3 => stmts::read_classical_decl(s, kinds, at),
       (λ c κs. search (needs, case-there))  -- read-assignment-requires: 4 => stmts::read_assignment(s, kinds, at),
       (λ c κs. search (needs, case-there))  -- read-gate-call-requires: 5 => stmts::read_gate_call(s, kinds, at),

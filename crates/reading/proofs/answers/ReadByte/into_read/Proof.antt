@@ -1,5 +1,5 @@
 -- `reading::answers::ReadByte::into_read` meets its contract. Assumes nothing.
-use Rattle.reading.proofs.Taken.{byte-next, byte-no}
+use Rattle.reading.proofs.Taken.{taken-next, taken-no, byteKind}
 use borrow.Author.Needs.{needs}
 use Rattle.reading.proofs.answers.ReadByte.into_read.Statement.{statement}
 use Rattle.reading.proofs.answers.ReadByte.into_read.Tie as tie
@@ -9,5 +9,5 @@ into-read-spec =
     tie.close (tie.spec
     (λ c. search needs)  -- enum-known-self
     (λ c. search needs)  -- enum-known-self-2
-    (λ c. search (byte-next, byte-no))  -- returns
-    (λ c. search (byte-next, byte-no)))  -- returns-2
+    (λ c. search (taken-next byteKind, taken-no byteKind))  -- returns
+    (λ c. search (taken-next byteKind, taken-no byteKind)))  -- returns-2

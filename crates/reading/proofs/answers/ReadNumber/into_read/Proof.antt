@@ -1,5 +1,5 @@
 -- `reading::answers::ReadNumber::into_read` meets its contract. Assumes nothing.
-use Rattle.reading.proofs.Taken.{number-next, number-no}
+use Rattle.reading.proofs.Taken.{taken-next, taken-no, numberKind}
 use borrow.Author.Needs.{needs}
 use Rattle.reading.proofs.answers.ReadNumber.into_read.Statement.{statement}
 use Rattle.reading.proofs.answers.ReadNumber.into_read.Tie as tie
@@ -9,5 +9,5 @@ into-read-spec =
     tie.close (tie.spec
     (λ c. search needs)  -- enum-known-self
     (λ c. search needs)  -- enum-known-self-2
-    (λ c. search (number-next, number-no))  -- returns
-    (λ c. search (number-next, number-no)))  -- returns-2
+    (λ c. search (taken-next numberKind, taken-no numberKind))  -- returns
+    (λ c. search (taken-next numberKind, taken-no numberKind)))  -- returns-2

@@ -1,5 +1,5 @@
 -- `reading::answers::ReadSpan::into_read` meets its contract. Assumes nothing.
-use Rattle.reading.proofs.Taken.{span-next, span-no}
+use Rattle.reading.proofs.Taken.{taken-next, taken-no, spanKind}
 use borrow.Author.Needs.{needs}
 use Rattle.reading.proofs.answers.ReadSpan.into_read.Statement.{statement}
 use Rattle.reading.proofs.answers.ReadSpan.into_read.Tie as tie
@@ -9,5 +9,5 @@ into-read-spec =
     tie.close (tie.spec
     (λ c. search needs)  -- enum-known-self
     (λ c. search needs)  -- enum-known-self-2
-    (λ c. search (span-next, span-no))  -- returns
-    (λ c. search (span-next, span-no)))  -- returns-2
+    (λ c. search (taken-next spanKind, taken-no spanKind))  -- returns
+    (λ c. search (taken-next spanKind, taken-no spanKind)))  -- returns-2

@@ -1,5 +1,5 @@
 -- `reading::answers::ReadText::into_read` meets its contract. Assumes nothing.
-use Rattle.reading.proofs.Taken.{text-next, text-no}
+use Rattle.reading.proofs.Taken.{taken-next, taken-no, textKind}
 use borrow.Author.Needs.{needs}
 use Rattle.reading.proofs.answers.ReadText.into_read.Statement.{statement}
 use Rattle.reading.proofs.answers.ReadText.into_read.Tie as tie
@@ -9,5 +9,5 @@ into-read-spec =
     tie.close (tie.spec
     (λ c. search needs)  -- enum-known-self
     (λ c. search needs)  -- enum-known-self-2
-    (λ c. search (text-next, text-no))  -- returns
-    (λ c. search (text-next, text-no)))  -- returns-2
+    (λ c. search (taken-next textKind, taken-no textKind))  -- returns
+    (λ c. search (taken-next textKind, taken-no textKind)))  -- returns-2

@@ -1,12 +1,12 @@
--- `forms::stmts::read_qubit_decl` meets its contract. Assumes nothing.
+-- `forms::stmts::read_register` meets its contract. Assumes nothing.
 use Rattle.reading.proofs.Runs.{runs-stop, runs-end}
 use Rattle.forms.proofs.Fields.{stmt-fields}
 use borrow.Author.Needs.{needs}
-use Rattle.forms.proofs.stmts.read_qubit_decl.Statement.{statement}
-use Rattle.forms.proofs.stmts.read_qubit_decl.Tie as tie
+use Rattle.forms.proofs.stmts.read_register.Statement.{statement}
+use Rattle.forms.proofs.stmts.read_register.Tie as tie
 
-pub read-qubit-decl-spec : {M : Type 1} → statement M
-read-qubit-decl-spec =
+pub read-register-spec : {M : Type 1} → statement M
+read-register-spec =
     tie.close (tie.spec
     (λ c. search needs)  -- add-read-name
     (λ c κs. search needs)  -- read-name-requires

@@ -1,11 +1,12 @@
--- `read_args`, `read_binary`, `read_call`, `read_compare`, `read_expr`, `read_neg`, which call each other, meet their contracts. The measure goes by the levels left, and at one level by the order of the calls. Assumes nothing.
+-- `read_args`, `read_call`, `read_expr`, `read_neg`, `read_pair`, which call each other, meet their contracts. The measure goes by the levels left, and at one level by the order of the calls. Assumes nothing.
 use Rattle.ast.specs.Tree.{noExpr, moreExpr}
 use Rattle.tree.specs.Read.{repeat}
 use Rattle.tree.specs.Decode.{textsOf}
 use Rattle.tree.specs.Exprs.{expr, exprs}
 use Rattle.reading.specs.Answers.{forget}
 use mathlib.Core.Path.{_≡_}
-use Rattle.forms.proofs.Cases.{expressions}
+use Rattle.forms.proofs.Cases.{arm-pair, expressions}
+use Rattle.text.proofs.Unlike.{unlike}
 use Rattle.reading.proofs.Values.{vecs}
 use Rattle.reading.proofs.Runs.{runs-stop, runs-end}
 use Rattle.forms.proofs.Fields.{fields}
@@ -14,39 +15,34 @@ use Prim.Native.Nat.{ℕ, _<_, _+_, _*_}
 use borrow.Fn.Kinds.{In}
 use borrow.Fn.PlainCycle.{Measures}
 use Rattle.forms.proofs.exprs.read_args.Reads as read-args
-use Rattle.forms.proofs.exprs.+read_args+read_binary+read_call+read_compare+read_expr+read_neg.Lts-read_args as read-args-lts
-use Rattle.forms.proofs.exprs.read_binary.Reads as read-binary
-use Rattle.forms.proofs.exprs.+read_args+read_binary+read_call+read_compare+read_expr+read_neg.Lts-read_binary as read-binary-lts
+use Rattle.forms.proofs.exprs.+read_args+read_call+read_expr+read_neg+read_pair.Lts-read_args as read-args-lts
 use Rattle.forms.proofs.exprs.read_call.Reads as read-call
-use Rattle.forms.proofs.exprs.+read_args+read_binary+read_call+read_compare+read_expr+read_neg.Lts-read_call as read-call-lts
-use Rattle.forms.proofs.exprs.read_compare.Reads as read-compare
-use Rattle.forms.proofs.exprs.+read_args+read_binary+read_call+read_compare+read_expr+read_neg.Lts-read_compare as read-compare-lts
+use Rattle.forms.proofs.exprs.+read_args+read_call+read_expr+read_neg+read_pair.Lts-read_call as read-call-lts
 use Rattle.forms.proofs.exprs.read_expr.Reads as read-expr
-use Rattle.forms.proofs.exprs.+read_args+read_binary+read_call+read_compare+read_expr+read_neg.Lts-read_expr as read-expr-lts
+use Rattle.forms.proofs.exprs.+read_args+read_call+read_expr+read_neg+read_pair.Lts-read_expr as read-expr-lts
 use Rattle.forms.proofs.exprs.read_neg.Reads as read-neg
-use Rattle.forms.proofs.exprs.+read_args+read_binary+read_call+read_compare+read_expr+read_neg.Lts-read_neg as read-neg-lts
+use Rattle.forms.proofs.exprs.+read_args+read_call+read_expr+read_neg+read_pair.Lts-read_neg as read-neg-lts
+use Rattle.forms.proofs.exprs.read_pair.Reads as read-pair
+use Rattle.forms.proofs.exprs.+read_args+read_call+read_expr+read_neg+read_pair.Lts-read_pair as read-pair-lts
 use Rattle.forms.proofs as fns
 use Rattle.reading.proofs as reading
-use Rattle.forms.proofs.exprs.+read_args+read_binary+read_call+read_compare+read_expr+read_neg.{statement}
-use Rattle.forms.proofs.exprs.+read_args+read_binary+read_call+read_compare+read_expr+read_neg.Tie.{close}
+use Rattle.forms.proofs.exprs.+read_args+read_call+read_expr+read_neg+read_pair.{statement}
+use Rattle.forms.proofs.exprs.+read_args+read_call+read_expr+read_neg+read_pair.Tie.{close}
 
 abbrev μ-read-args : Measures 2 read-args-lts.ps ℕ
 μ-read-args κs a = 3 * a .1 .1 .1 .0 + 1
 
-abbrev μ-read-binary : Measures 2 read-binary-lts.ps ℕ
-μ-read-binary κs a = 3 * a .1 .1 .1 .0 + 2
-
 abbrev μ-read-call : Measures 2 read-call-lts.ps ℕ
 μ-read-call κs a = 3 * a .1 .1 .1 .0 + 2
-
-abbrev μ-read-compare : Measures 2 read-compare-lts.ps ℕ
-μ-read-compare κs a = 3 * a .1 .1 .1 .0 + 2
 
 abbrev μ-read-expr : Measures 2 read-expr-lts.ps ℕ
 μ-read-expr κs a = 3 * a .1 .1 .1 .0
 
 abbrev μ-read-neg : Measures 2 read-neg-lts.ps ℕ
 μ-read-neg κs a = 3 * a .1 .1 .1 .0 + 2
+
+abbrev μ-read-pair : Measures 2 read-pair-lts.ps ℕ
+μ-read-pair κs a = 3 * a .1 .1 .1 .0 + 2
 
 abbrev read-args-Inv-loop : read-args-lts.InvT-loop
 read-args-Inv-loop s kinds at left n first k₀ i₀ k i = forget (exprs (expr (textsOf s) left) s at) ≡ forget (repeat noExpr moreExpr (expr (textsOf s) left) i s k)
@@ -61,23 +57,11 @@ module _ (t : ℕ) where
   abbrev read-args-below : In 2 read-args-lts.ps
   read-args-below κs a = (μ-read-args κs a < t) × read-args.Pre κs a
 
-  abbrev read-binary-at : In 2 read-binary-lts.ps
-  read-binary-at κs a = (μ-read-binary κs a ≡ t) × read-binary.Pre κs a
-
-  abbrev read-binary-below : In 2 read-binary-lts.ps
-  read-binary-below κs a = (μ-read-binary κs a < t) × read-binary.Pre κs a
-
   abbrev read-call-at : In 2 read-call-lts.ps
   read-call-at κs a = (μ-read-call κs a ≡ t) × read-call.Pre κs a
 
   abbrev read-call-below : In 2 read-call-lts.ps
   read-call-below κs a = (μ-read-call κs a < t) × read-call.Pre κs a
-
-  abbrev read-compare-at : In 2 read-compare-lts.ps
-  read-compare-at κs a = (μ-read-compare κs a ≡ t) × read-compare.Pre κs a
-
-  abbrev read-compare-below : In 2 read-compare-lts.ps
-  read-compare-below κs a = (μ-read-compare κs a < t) × read-compare.Pre κs a
 
   abbrev read-expr-at : In 2 read-expr-lts.ps
   read-expr-at κs a = (μ-read-expr κs a ≡ t) × read-expr.Pre κs a
@@ -90,6 +74,12 @@ module _ (t : ℕ) where
 
   abbrev read-neg-below : In 2 read-neg-lts.ps
   read-neg-below κs a = (μ-read-neg κs a < t) × read-neg.Pre κs a
+
+  abbrev read-pair-at : In 2 read-pair-lts.ps
+  read-pair-at κs a = (μ-read-pair κs a ≡ t) × read-pair.Pre κs a
+
+  abbrev read-pair-below : In 2 read-pair-lts.ps
+  read-pair-below κs a = (μ-read-pair κs a < t) × read-pair.Pre κs a
 
   abbrev read-args-calls : read-args-lts.Claims
   read-args-calls = (reading.numbers.read_count.Reads.Asked, reading.numbers.read_count.Reads.Learnt, reading.answers.ReadByte.into_read.Reads.Asked, reading.answers.ReadByte.into_read.Reads.Learnt, read-expr-below, read-expr.Post)
@@ -112,29 +102,6 @@ module _ (t : ℕ) where
       (λ c. search vecs)  -- loop-again
       (λ c. search vecs)  -- returns-3: fn read_args(s: &[u8], kinds: &[u8], at: usize, left: usize) ..
 
-  abbrev read-binary-calls : read-binary-lts.Claims
-  read-binary-calls = (reading.numbers.read_case.Reads.Asked, reading.numbers.read_case.Reads.Learnt, reading.answers.ReadByte.into_read.Reads.Asked, reading.answers.ReadByte.into_read.Reads.Learnt, read-expr-below, read-expr.Post, reading.numbers.read_span.Reads.Asked, reading.numbers.read_span.Reads.Learnt, reading.answers.ReadSpan.into_read.Reads.Asked, reading.answers.ReadSpan.into_read.Reads.Learnt)
-
-  read-binary-closed : {M : Type 1} → read-binary-lts.Closed read-binary-calls read-binary-at read-binary.Post M
-  read-binary-closed =
-      read-binary-lts.spec read-binary-calls read-binary-at read-binary.Post
-      (λ c κs. search needs)  -- read-case-requires: let a = read_case(s, at, BIN_OPS);
-      (λ c. search needs)  -- enum-known-a: let ReadByte::At(_, k) = a else {
-      (λ c. search needs)  -- enum-told: return a.into_read();
-      (λ c κs. search needs)  -- into-read-requires
-      (λ c. search (fields, runs-stop))  -- returns
-      (λ c κs. search needs)  -- read-expr-requires: let b = read_expr(s, kinds, k, left);
-      (λ c. search needs)  -- enum-known-b: let Read::At(l) = b else {
-      (λ c. search needs)  -- enum-told-2: return b;
-      (λ c. search (fields, runs-stop))  -- returns-2
-      (λ c κs. search needs)  -- read-expr-requires-2: let c = read_expr(s, kinds, l, left);
-      (λ c. search needs)  -- enum-known-c: let Read::At(m) = c else {
-      (λ c. search needs)  -- enum-told-3: return c;
-      (λ c. search (fields, runs-stop))  -- returns-3
-      (λ c κs. search needs)  -- read-span-requires: read_span(s, m).into_read()
-      (λ c κs. search needs)  -- into-read-requires-2
-      (λ c. search (fields, runs-end))  -- returns-4: fn read_binary(s: &[u8], kinds: &[u8], at: usize, left: usiz ..
-
   abbrev read-call-calls : read-call-lts.Claims
   read-call-calls = (reading.texts.read_name.Reads.Asked, reading.texts.read_name.Reads.Learnt, reading.answers.ReadText.into_read.Reads.Asked, reading.answers.ReadText.into_read.Reads.Learnt, read-args-below, read-args.Post, reading.numbers.read_span.Reads.Asked, reading.numbers.read_span.Reads.Learnt, reading.answers.ReadSpan.into_read.Reads.Asked, reading.answers.ReadSpan.into_read.Reads.Learnt)
 
@@ -154,31 +121,8 @@ module _ (t : ℕ) where
       (λ c κs. search needs)  -- into-read-requires-2
       (λ c. search (fields, runs-end))  -- returns-3: fn read_call(s: &[u8], kinds: &[u8], at: usize, left: usize) ..
 
-  abbrev read-compare-calls : read-compare-lts.Claims
-  read-compare-calls = (reading.numbers.read_case.Reads.Asked, reading.numbers.read_case.Reads.Learnt, reading.answers.ReadByte.into_read.Reads.Asked, reading.answers.ReadByte.into_read.Reads.Learnt, read-expr-below, read-expr.Post, reading.numbers.read_span.Reads.Asked, reading.numbers.read_span.Reads.Learnt, reading.answers.ReadSpan.into_read.Reads.Asked, reading.answers.ReadSpan.into_read.Reads.Learnt)
-
-  read-compare-closed : {M : Type 1} → read-compare-lts.Closed read-compare-calls read-compare-at read-compare.Post M
-  read-compare-closed =
-      read-compare-lts.spec read-compare-calls read-compare-at read-compare.Post
-      (λ c κs. search needs)  -- read-case-requires: let a = read_case(s, at, COMPARE_OPS);
-      (λ c. search needs)  -- enum-known-a: let ReadByte::At(_, k) = a else {
-      (λ c. search needs)  -- enum-told: return a.into_read();
-      (λ c κs. search needs)  -- into-read-requires
-      (λ c. search (fields, runs-stop))  -- returns
-      (λ c κs. search needs)  -- read-expr-requires: let b = read_expr(s, kinds, k, left);
-      (λ c. search needs)  -- enum-known-b: let Read::At(l) = b else {
-      (λ c. search needs)  -- enum-told-2: return b;
-      (λ c. search (fields, runs-stop))  -- returns-2
-      (λ c κs. search needs)  -- read-expr-requires-2: let c = read_expr(s, kinds, l, left);
-      (λ c. search needs)  -- enum-known-c: let Read::At(m) = c else {
-      (λ c. search needs)  -- enum-told-3: return c;
-      (λ c. search (fields, runs-stop))  -- returns-3
-      (λ c κs. search needs)  -- read-span-requires: read_span(s, m).into_read()
-      (λ c κs. search needs)  -- into-read-requires-2
-      (λ c. search (fields, runs-end))  -- returns-4: fn read_compare(s: &[u8], kinds: &[u8], at: usize, left: usi ..
-
   abbrev read-expr-calls : read-expr-lts.Claims
-  read-expr-calls = (reading.numbers.read_case.Reads.Asked, reading.numbers.read_case.Reads.Learnt, reading.answers.ReadByte.into_read.Reads.Asked, reading.answers.ReadByte.into_read.Reads.Learnt, fns.exprs.read_int_lit.Reads.Asked, fns.exprs.read_int_lit.Reads.Learnt, fns.exprs.read_float_lit.Reads.Asked, fns.exprs.read_float_lit.Reads.Learnt, fns.exprs.read_bool_lit.Reads.Asked, fns.exprs.read_bool_lit.Reads.Learnt, fns.exprs.read_ident.Reads.Asked, fns.exprs.read_ident.Reads.Learnt, fns.exprs.read_index.Reads.Asked, fns.exprs.read_index.Reads.Learnt, read-call-below, read-call.Post, fns.exprs.read_const.Reads.Asked, fns.exprs.read_const.Reads.Learnt, read-neg-below, read-neg.Post, read-binary-below, read-binary.Post, read-compare-below, read-compare.Post)
+  read-expr-calls = (reading.numbers.read_case.Reads.Asked, reading.numbers.read_case.Reads.Learnt, reading.answers.ReadByte.into_read.Reads.Asked, reading.answers.ReadByte.into_read.Reads.Learnt, fns.exprs.read_int_lit.Reads.Asked, fns.exprs.read_int_lit.Reads.Learnt, fns.exprs.read_float_lit.Reads.Asked, fns.exprs.read_float_lit.Reads.Learnt, fns.exprs.read_bool_lit.Reads.Asked, fns.exprs.read_bool_lit.Reads.Learnt, fns.exprs.read_ident.Reads.Asked, fns.exprs.read_ident.Reads.Learnt, fns.exprs.read_index.Reads.Asked, fns.exprs.read_index.Reads.Learnt, read-call-below, read-call.Post, fns.exprs.read_const.Reads.Asked, fns.exprs.read_const.Reads.Learnt, read-neg-below, read-neg.Post, fns.exprs.operators.Reads.Asked, fns.exprs.operators.Reads.Learnt, read-pair-below, read-pair.Post)
 
   read-expr-closed : {M : Type 1} → read-expr-lts.Closed read-expr-calls read-expr-at read-expr.Post M
   read-expr-closed =
@@ -199,10 +143,9 @@ module _ (t : ℕ) where
       (λ c κs. search needs)  -- read-const-requires: 6 => read_const(s, k),
       (λ c. search needs)  -- sub-read-neg: 7 => read_neg(s, kinds, k, left - 1),
       (λ c κs. search needs)  -- read-neg-requires
-      (λ c. search needs)  -- sub-read-binary: 8 => read_binary(s, kinds, k, left - 1),
-      (λ c κs. search needs)  -- read-binary-requires
-      (λ c. search needs)  -- sub-read-compare: _ => read_compare(s, kinds, k, left - 1),
-      (λ c κs. search needs)  -- read-compare-requires
+      (λ c. search needs)  -- sub-read-pair: _ => read_pair(s, kinds, k, left - 1, operators(b)),
+      (λ c κs. search needs)  -- operators-requires
+      (λ c κs. search needs)  -- read-pair-requires
       (λ c. search expressions)  -- returns-3: fn read_expr(s: &[u8], kinds: &[u8], at: usize, left: usize) ..
       (λ c. search expressions)  -- returns-4
       (λ c. search expressions)  -- returns-5
@@ -211,8 +154,7 @@ module _ (t : ℕ) where
       (λ c. search expressions)  -- returns-8
       (λ c. search expressions)  -- returns-9
       (λ c. search expressions)  -- returns-10
-      (λ c. search expressions)  -- returns-11
-      (λ c. search expressions)  -- returns-12
+      (λ c. arm-pair _ _ _ _ _ (c .before .before .before .before .before .before .before .read-case .ensures) _ _ (c .before .before .before .before .before .a .given .1) (c .before .before .before .if1 .left) _ (unlike 8 _ (c .before .before .match2 .rest)) _ (c .before .operators .ensures) (c .read-pair .ensures))  -- returns-11
 
   abbrev read-neg-calls : read-neg-lts.Claims
   read-neg-calls = (read-expr-below, read-expr.Post, reading.numbers.read_span.Reads.Asked, reading.numbers.read_span.Reads.Learnt, reading.answers.ReadSpan.into_read.Reads.Asked, reading.answers.ReadSpan.into_read.Reads.Learnt)
@@ -228,8 +170,31 @@ module _ (t : ℕ) where
       (λ c κs. search needs)  -- into-read-requires
       (λ c. search (fields, runs-end))  -- returns-2: fn read_neg(s: &[u8], kinds: &[u8], at: usize, left: usize)  ..
 
-pub +read-args+read-binary+read-call+read-compare+read-expr+read-neg-spec : {M : Type 1} → statement M
-+read-args+read-binary+read-call+read-compare+read-expr+read-neg-spec =
-    close μ-read-args μ-read-binary μ-read-call μ-read-compare μ-read-expr μ-read-neg
-    (λ t. read-args-closed t) (λ t. read-binary-closed t) (λ t. read-call-closed t)
-    (λ t. read-compare-closed t) (λ t. read-expr-closed t) (λ t. read-neg-closed t)
+  abbrev read-pair-calls : read-pair-lts.Claims
+  read-pair-calls = (reading.numbers.read_case.Reads.Asked, reading.numbers.read_case.Reads.Learnt, reading.answers.ReadByte.into_read.Reads.Asked, reading.answers.ReadByte.into_read.Reads.Learnt, read-expr-below, read-expr.Post, reading.numbers.read_span.Reads.Asked, reading.numbers.read_span.Reads.Learnt, reading.answers.ReadSpan.into_read.Reads.Asked, reading.answers.ReadSpan.into_read.Reads.Learnt)
+
+  read-pair-closed : {M : Type 1} → read-pair-lts.Closed read-pair-calls read-pair-at read-pair.Post M
+  read-pair-closed =
+      read-pair-lts.spec read-pair-calls read-pair-at read-pair.Post
+      (λ c κs. search needs)  -- read-case-requires: let a = read_case(s, at, ops);
+      (λ c. search needs)  -- enum-known-a: let ReadByte::At(_, k) = a else {
+      (λ c. search needs)  -- enum-told: return a.into_read();
+      (λ c κs. search needs)  -- into-read-requires
+      (λ c. search (fields, runs-stop))  -- returns
+      (λ c κs. search needs)  -- read-expr-requires: let b = read_expr(s, kinds, k, left);
+      (λ c. search needs)  -- enum-known-b: let Read::At(l) = b else {
+      (λ c. search needs)  -- enum-told-2: return b;
+      (λ c. search (fields, runs-stop))  -- returns-2
+      (λ c κs. search needs)  -- read-expr-requires-2: let c = read_expr(s, kinds, l, left);
+      (λ c. search needs)  -- enum-known-c: let Read::At(m) = c else {
+      (λ c. search needs)  -- enum-told-3: return c;
+      (λ c. search (fields, runs-stop))  -- returns-3
+      (λ c κs. search needs)  -- read-span-requires: read_span(s, m).into_read()
+      (λ c κs. search needs)  -- into-read-requires-2
+      (λ c. search (fields, runs-end))  -- returns-4: fn read_pair(s: &[u8], kinds: &[u8], at: usize, left: usiz ..
+
+pub +read-args+read-call+read-expr+read-neg+read-pair-spec : {M : Type 1} → statement M
++read-args+read-call+read-expr+read-neg+read-pair-spec =
+    close μ-read-args μ-read-call μ-read-expr μ-read-neg μ-read-pair
+    (λ t. read-args-closed t) (λ t. read-call-closed t) (λ t. read-expr-closed t)
+    (λ t. read-neg-closed t) (λ t. read-pair-closed t)
