@@ -18,6 +18,7 @@ use accepted::numbers::u16_at;
 use accepted::parts::skip_range;
 use accepted::stmts::skip_body;
 use ast::ClassicalType;
+use context::Index;
 use context::Sink;
 use lines::Message;
 use lines::Place;
@@ -63,7 +64,7 @@ fn is_int(ty: ClassicalType) -> bool
 // The variable of a `for` must be an int.
 pub fn report_type(
     tree: &[u8],
-    index: &[u64],
+    index: &Index,
     out: &mut [u8],
     ty: ClassicalType,
     span: Span,
@@ -87,7 +88,7 @@ pub fn report_type(
 // The step of a range, where there is one.
 fn check_step(
     tree: &[u8],
-    index: &[u64],
+    index: &Index,
     scratch: &[u8],
     out: &mut [u8],
     depth: usize,
@@ -117,7 +118,7 @@ fn check_step(
 // The bounds of a range, and its step.
 pub fn check_range(
     tree: &[u8],
-    index: &[u64],
+    index: &Index,
     scratch: &[u8],
     out: &mut [u8],
     depth: usize,

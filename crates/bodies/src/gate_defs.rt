@@ -20,6 +20,7 @@ use accepted::parts::skip_names;
 use accepted::stmts::skip_body;
 use context::FoundGate;
 use context::GateSig;
+use context::Index;
 use context::Sink;
 use lines::Message;
 use span::Span;
@@ -52,7 +53,7 @@ pub fn gate_parts(tree: &[u8], at: usize, left: usize) -> GateParts
 // A name that a gate has is reported, and the definition replaces the other.
 pub fn report_gate(
     tree: &[u8],
-    index: &[u64],
+    index: &Index,
     scratch: &[u8],
     out: &mut [u8],
     x: usize,

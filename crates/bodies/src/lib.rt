@@ -4,6 +4,7 @@ mod gate_defs;
 
 use ast::ClassicalType;
 use context::After;
+use context::Index;
 use context::Sink;
 use for_loops::check_range;
 use for_loops::for_parts;
@@ -29,7 +30,7 @@ ghost use Rattle.bodies.specs.Opened.{GateOpened, ConditionOpened, ForOp
 // The gate is defined, and its body opened.
 pub fn open_gate(
     tree: &[u8],
-    index: &[u64],
+    index: &Index,
     scratch: &mut [u8],
     out: &mut [u8],
     left: usize,
@@ -60,7 +61,7 @@ pub fn open_gate(
 // A condition, and an empty scope for what stands behind it.
 fn open_condition(
     tree: &[u8],
-    index: &[u64],
+    index: &Index,
     scratch: &mut [u8],
     out: &mut [u8],
     left: usize,
@@ -88,7 +89,7 @@ fn open_condition(
 
 pub fn open_if(
     tree: &[u8],
-    index: &[u64],
+    index: &Index,
     scratch: &mut [u8],
     out: &mut [u8],
     left: usize,
@@ -112,7 +113,7 @@ pub fn open_if(
 
 pub fn open_while(
     tree: &[u8],
-    index: &[u64],
+    index: &Index,
     scratch: &mut [u8],
     out: &mut [u8],
     left: usize,
@@ -137,7 +138,7 @@ pub fn open_while(
 // The bounds are checked, and the body opened.
 pub fn open_for(
     tree: &[u8],
-    index: &[u64],
+    index: &Index,
     scratch: &mut [u8],
     out: &mut [u8],
     left: usize,

@@ -1,4 +1,5 @@
 // The checking list of a tree.
+use context::Index;
 use context::Sink;
 use context::State;
 use keys::Keys;
@@ -27,7 +28,7 @@ const STAGE: usize = 8192;
 // One walk over the whole tree, behind n bytes of the listing.
 fn run(
     tree: &[u8],
-    index: &[u64],
+    index: &Index,
     scratch: &mut [u8],
     out: &mut [u8],
     keys: usize,
@@ -39,7 +40,7 @@ fn run(
 {
     tables::begin(scratch);
     let sink = Sink {
-        n,
+        n: n as u32,
         errors: 0,
         warnings: 0,
     };
@@ -59,7 +60,7 @@ fn run(
 // The first walk: it learns the counts and the length. Its lines are kept in the stage, as far as that has room.
 fn learn(
     tree: &[u8],
-    index: &[u64],
+    index: &Index,
     scratch: &mut [u8],
     stage: &mut [u8],
     keys: usize,
@@ -74,7 +75,7 @@ fn learn(
 // The second walk writes: the counts of the first are known, and the buffer has room.
 fn write(
     tree: &[u8],
-    index: &[u64],
+    index: &Index,
     scratch: &mut [u8],
     listing: &mut [u8],
     keys: usize,
@@ -85,14 +86,16 @@ fn write(
     requires { ⌜ Learnt (programOf (now tree)) sink × (sink .errors + sink .warnings ≤ 256) ⌝ }
     ensures { λ _. ⌜ (now (listing .exit) ≡ sets (now (listing .entry)) 0 (listingOf (textsOf (now (tree .entry))) (analyze (programOf (now (tree .entry)))))) × SameRest (now (scratch .entry)) (now (scratch .exit)) ⌝ }
 {
-    let head = lines::first_line(listing, sink.errors, sink.warnings);
+    let errors = sink.errors as usize;
+    let warnings = sink.warnings as usize;
+    let head = lines::first_line(listing, errors, warnings);
     run(tree, index, scratch, listing, keys, at, head);
 }
 
 // The lines that the stage had room for, or those of a second walk.
 fn write_listing(
     tree: &[u8],
-    index: &[u64],
+    index: &Index,
     scratch: &mut [u8],
     stage: &[u8],
     listing: &mut [u8],
@@ -104,7 +107,8 @@ fn write_listing(
     requires { ⌜ Learnt (programOf (now tree)) sink × Listable sink (length (now listing)) × Staged (programOf (now tree)) sink (now stage) ⌝ }
     ensures { λ _. ⌜ (now (listing .exit) ≡ sets (now (listing .entry)) 0 (listingOf (textsOf (now (tree .entry))) (analyze (programOf (now (tree .entry)))))) × SameRest (now (scratch .entry)) (now (scratch .exit)) ⌝ }
 {
-    if sink.n <= stage.len() {
+    let n = sink.n as usize;
+    if n <= stage.len() {
         verdict::write_staged(stage, listing, sink);
     } else {
         write(tree, index, scratch, listing, keys, at, sink);
@@ -114,7 +118,7 @@ fn write_listing(
 // The first walk learns the counts and the length; the listing is written where they are accepted.
 fn list(
     tree: &[u8],
-    index: &[u64],
+    index: &Index,
     scratch: &mut [u8],
     listing: &mut [u8],
     keys: usize,

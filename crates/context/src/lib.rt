@@ -7,6 +7,9 @@ ghost use Rattle.sema.specs.Messages.{aBit};
 ghost use Rattle.sema.specs.Operands.{fits};
 ghost use Rattle.context.specs.Values.{kindOf};
 
+// The places of the texts, then two numbers for each key.
+pub type Index = [u64; 768];
+
 // An Option of a number.
 pub enum Number {
     Some(u64),
@@ -83,11 +86,11 @@ pub enum FoundFunction {
     None,
 }
 
-// How far the listing is: its length, and the diagnostics in it.
+// How far the listing is: its length, and the diagnostics in it. Every function that may say something takes and gives one: it is 8 bytes.
 pub struct Sink {
-    pub n: usize,
-    pub errors: usize,
-    pub warnings: usize,
+    pub n: u32,
+    pub errors: u16,
+    pub warnings: u16,
 }
 
 // What an expression is found to be, the place past it, and the listing after what is said of it.

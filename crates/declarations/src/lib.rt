@@ -29,6 +29,7 @@ use ast::ClassicalType;
 use context::After;
 use context::FoundFunction;
 use context::FoundSymbol;
+use context::Index;
 use context::Sink;
 use context::Symbol;
 use context::Typing;
@@ -50,7 +51,7 @@ use text::wide;
 // Gives the name a symbol in the innermost scope; the first declaration stays.
 fn declare(
     tree: &[u8],
-    index: &[u64],
+    index: &Index,
     scratch: &mut [u8],
     out: &mut [u8],
     depth: usize,
@@ -69,7 +70,7 @@ fn declare(
 // The declaration of a qubit or a bit.
 fn register(
     tree: &[u8],
-    index: &[u64],
+    index: &Index,
     scratch: &mut [u8],
     out: &mut [u8],
     left: usize,
@@ -90,7 +91,7 @@ fn register(
 
 pub fn qubit_decl(
     tree: &[u8],
-    index: &[u64],
+    index: &Index,
     scratch: &mut [u8],
     out: &mut [u8],
     left: usize,
@@ -105,7 +106,7 @@ pub fn qubit_decl(
 
 pub fn bit_decl(
     tree: &[u8],
-    index: &[u64],
+    index: &Index,
     scratch: &mut [u8],
     out: &mut [u8],
     left: usize,
@@ -121,7 +122,7 @@ pub fn bit_decl(
 // The initializer of x behind its byte, in the scopes after the declaration.
 fn check_init(
     tree: &[u8],
-    index: &[u64],
+    index: &Index,
     scratch: &[u8],
     out: &mut [u8],
     depth: usize,
@@ -143,7 +144,7 @@ fn check_init(
 // What is said of a classical declaration at `at` after its name: of its qualifier and of its initializer.
 fn check_classical(
     tree: &[u8],
-    index: &[u64],
+    index: &Index,
     scratch: &[u8],
     out: &mut [u8],
     depth: usize,
@@ -175,7 +176,7 @@ fn check_classical(
 // The declaration of a classical variable: its name, its qualifier, its initializer.
 pub fn classical_decl(
     tree: &[u8],
-    index: &[u64],
+    index: &Index,
     scratch: &mut [u8],
     out: &mut [u8],
     left: usize,
@@ -210,7 +211,7 @@ pub fn classical_decl(
 // The target x of an assignment whose value has the typing t.
 fn check_target(
     tree: &[u8],
-    index: &[u64],
+    index: &Index,
     scratch: &[u8],
     out: &mut [u8],
     depth: usize,
@@ -234,7 +235,7 @@ fn check_target(
 // The value, and then the target. The scratch stays as it is.
 pub fn assignment(
     tree: &[u8],
-    index: &[u64],
+    index: &Index,
     scratch: &[u8],
     out: &mut [u8],
     left: usize,
@@ -268,7 +269,7 @@ pub fn assignment(
 // The function f, whose parameters stand at `at`; of two of one name the first stays.
 fn define(
     tree: &[u8],
-    index: &[u64],
+    index: &Index,
     scratch: &mut [u8],
     out: &mut [u8],
     at: usize,
@@ -294,7 +295,7 @@ fn define(
 // The body of f in a scope with its parameters, which stand at `at`.
 fn check_body(
     tree: &[u8],
-    index: &[u64],
+    index: &Index,
     scratch: &mut [u8],
     out: &mut [u8],
     depth: usize,
@@ -315,7 +316,7 @@ fn check_body(
 // The function is known in its own body. Its scope is left by counting one less.
 pub fn function_def(
     tree: &[u8],
-    index: &[u64],
+    index: &Index,
     scratch: &mut [u8],
     out: &mut [u8],
     left: usize,

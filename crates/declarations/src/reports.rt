@@ -20,6 +20,7 @@ ghost use Rattle.declarations.specs.Says.{declaredSays, codeSays, spanne
 use accepted::numbers::span_at;
 use ast::ClassicalType;
 use context::FoundSymbol;
+use context::Index;
 use context::Sink;
 use context::SymbolKind;
 use context::Typing;
@@ -33,7 +34,7 @@ use types::Typed;
 // An error, and an error with a note.
 pub fn report_error(
     tree: &[u8],
-    index: &[u64],
+    index: &Index,
     out: &mut [u8],
     message: Message,
     span: Span,
@@ -47,7 +48,7 @@ pub fn report_error(
 
 fn report_with_note(
     tree: &[u8],
-    index: &[u64],
+    index: &Index,
     out: &mut [u8],
     message: Message,
     span: Span,
@@ -70,7 +71,7 @@ fn report_with_note(
 // The first declaration of a scope stays: `found` is what the scope had.
 pub fn report_declared(
     tree: &[u8],
-    index: &[u64],
+    index: &Index,
     out: &mut [u8],
     found: FoundSymbol,
     x: usize,
@@ -99,7 +100,7 @@ pub fn report_declared(
 // The message at the span of the expression that ends at `end`, where the expected type does not take the actual one.
 pub fn check_type(
     tree: &[u8],
-    index: &[u64],
+    index: &Index,
     out: &mut [u8],
     expected: ClassicalType,
     actual: ClassicalType,
@@ -130,7 +131,7 @@ fn are_numeric(a: ClassicalType, b: ClassicalType) -> bool
 // By the case byte of the operation.
 fn check_compound(
     tree: &[u8],
-    index: &[u64],
+    index: &Index,
     out: &mut [u8],
     op: u8,
     expected: ClassicalType,
@@ -153,7 +154,7 @@ fn check_compound(
 // The value of an assignment, whose typing is t, against the type of its target x.
 fn check_assign(
     tree: &[u8],
-    index: &[u64],
+    index: &Index,
     out: &mut [u8],
     x: usize,
     op: u8,
@@ -213,7 +214,7 @@ fn not_assignable(kind: SymbolKind, x: usize) -> Message
 // The target x of an assignment is of this kind.
 pub fn check_kind(
     tree: &[u8],
-    index: &[u64],
+    index: &Index,
     out: &mut [u8],
     x: usize,
     op: u8,
@@ -235,7 +236,7 @@ pub fn check_kind(
 // The const and input checks: q is 0 for no qualifier, 1 for const, 2 for input; `init` is 0 for no initializer.
 pub fn check_qualifier(
     tree: &[u8],
-    index: &[u64],
+    index: &Index,
     out: &mut [u8],
     q: u8,
     init: u8,
@@ -264,7 +265,7 @@ pub fn check_qualifier(
 // The initializer of x, whose typing is t.
 pub fn check_value(
     tree: &[u8],
-    index: &[u64],
+    index: &Index,
     out: &mut [u8],
     x: usize,
     ty: ClassicalType,
@@ -293,7 +294,7 @@ pub fn check_value(
 // The body of the function x, whose typing is t.
 pub fn check_return(
     tree: &[u8],
-    index: &[u64],
+    index: &Index,
     out: &mut [u8],
     x: usize,
     ty: ClassicalType,
@@ -322,7 +323,7 @@ pub fn check_return(
 // The name x has a function already.
 pub fn report_defined(
     tree: &[u8],
-    index: &[u64],
+    index: &Index,
     out: &mut [u8],
     x: usize,
     span: Span,

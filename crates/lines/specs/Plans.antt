@@ -213,7 +213,7 @@ hasName (c ∷ cs) = eqb c aName || hasName cs
 
 -- the text with a number can be read
 pub record Readable (tree index : List ℕ) (x : ℕ) : Type 0 where
-  pub inside : x < length index
+  pub inside : x < 768
   pub text-at : TextAt tree index x
 
 -- the name of a plan can be read, where it has one

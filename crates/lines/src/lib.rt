@@ -5,6 +5,7 @@ mod tables;
 
 use ast::ClassicalType;
 use context::GateOperand;
+use context::Index;
 use context::Sink;
 use context::SymbolKind;
 use span::Span;
@@ -163,7 +164,7 @@ fn line<'a>(
     out: &mut [u8],
     n: usize,
     tree: &'a [u8],
-    index: &[u64],
+    index: &Index,
     wording: &'a [u8],
     places: &[u16; 97],
     letter: u8,
@@ -183,7 +184,7 @@ fn note_line<'a>(
     out: &mut [u8],
     n: usize,
     tree: &'a [u8],
-    index: &[u64],
+    index: &Index,
     wording: &'a [u8],
     places: &[u16; 97],
     secondary: Secondary,
@@ -212,7 +213,7 @@ fn message_line<'a>(
     out: &mut [u8],
     n: usize,
     tree: &'a [u8],
-    index: &[u64],
+    index: &Index,
     wording: &'a [u8],
     places: &[u16; 97],
     severity: Severity,
@@ -237,9 +238,10 @@ fn message_line<'a>(
 
 // One diagnostic more, and the listing's length.
 fn counted(sink: Sink, severity: Severity, n: usize) -> Sink
-    requires { ⌜ sink .errors + sink .warnings ≤ 256 ⌝ }
+    requires { ⌜ (sink .errors + sink .warnings ≤ 256) × (n ≤ 1048576) ⌝ }
     ensures { λ r. ⌜ r ≡ countedOf sink severity n ⌝ }
 {
+    let n = n as u32;
     match severity {
         Severity::Error => Sink {
             n,
@@ -255,11 +257,11 @@ fn counted(sink: Sink, severity: Severity, n: usize) -> Sink
 }
 
 // Writes a diagnostic behind what is written; one past the limit adds nothing. The walk over an accepted tree meets what is required.
-pub fn report(out: &mut [u8], sink: Sink, tree: &[u8], index: &[u64], d: Diagnostic) -> Sink
+pub fn report(out: &mut [u8], sink: Sink, tree: &[u8], index: &Index, d: Diagnostic) -> Sink
     requires { ⌜ TextsAt (now tree) (now index) × Fits (length (textsOf (now tree))) d × SinkFits sink ⌝ }
     ensures { λ r. ⌜ Reported (textsOf (now (tree .entry))) d sink (now (out .entry)) r (now (out .exit)) ⌝ }
 {
-    let n = sink.n;
+    let n = sink.n as usize;
     let errors = sink.errors;
     let warnings = sink.warnings;
     if 256 < errors + warnings {

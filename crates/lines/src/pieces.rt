@@ -1,6 +1,7 @@
 // Pieces of texts, and the storing of what a plan says.
 use super::Plan;
 use super::tables;
+use context::Index;
 use span::Span;
 use text::wide;
 ghost use mathlib.Core.Path.{_≡_};
@@ -32,7 +33,7 @@ fn phrase_of<'a>(wording: &'a [u8], places: &[u16; 97], n: usize) -> &'a [u8]
 }
 
 // The text with a number, as a part of the tree.
-pub fn name_of<'a>(tree: &'a [u8], index: &[u64], x: usize) -> &'a [u8]
+pub fn name_of<'a>(tree: &'a [u8], index: &Index, x: usize) -> &'a [u8]
     requires { ⌜ Readable (now tree) (now index) x ⌝ }
     ensures { λ r. ⌜ Shown (now r) (nameAt (textsOf (now (tree .entry))) x) 64 ⌝ }
 {
@@ -44,7 +45,7 @@ pub fn name_of<'a>(tree: &'a [u8], index: &[u64], x: usize) -> &'a [u8]
 // The next piece of a text: a part of the tree or of the wording. 200 is the name, 201 and 202 are the words.
 fn piece<'a>(
     tree: &'a [u8],
-    index: &[u64],
+    index: &Index,
     wording: &'a [u8],
     places: &[u16; 97],
     p: Plan,
@@ -142,7 +143,7 @@ fn write_part<'a>(
     out: &mut [u8],
     n: usize,
     tree: &'a [u8],
-    index: &[u64],
+    index: &Index,
     wording: &'a [u8],
     places: &[u16; 97],
     p: Plan,
@@ -169,7 +170,7 @@ pub(crate) fn write<'a>(
     out: &mut [u8],
     n: usize,
     tree: &'a [u8],
-    index: &[u64],
+    index: &Index,
     wording: &'a [u8],
     places: &[u16; 97],
     p: Plan,

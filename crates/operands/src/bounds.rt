@@ -15,6 +15,7 @@ use crate::kinds::indexes_wire;
 use crate::kinds::within;
 use context::Ends;
 use context::GateOperand;
+use context::Index;
 use context::Number;
 use context::Sink;
 use context::Symbol;
@@ -27,7 +28,7 @@ use lines::error_with_note;
 // An error of an operand, with a note where its symbol is declared.
 fn report_declared(
     tree: &[u8],
-    index: &[u64],
+    index: &Index,
     out: &mut [u8],
     op: GateOperand,
     symbol: Symbol,
@@ -44,7 +45,7 @@ fn report_declared(
 
 pub fn check_kind(
     tree: &[u8],
-    index: &[u64],
+    index: &Index,
     out: &mut [u8],
     op: GateOperand,
     symbol: Symbol,
@@ -120,7 +121,7 @@ fn slice_fault(op: GateOperand, symbol: Symbol) -> SliceFault
 
 fn check_index(
     tree: &[u8],
-    index: &[u64],
+    index: &Index,
     out: &mut [u8],
     op: GateOperand,
     symbol: Symbol,
@@ -156,7 +157,7 @@ fn check_index(
 
 fn check_slice(
     tree: &[u8],
-    index: &[u64],
+    index: &Index,
     out: &mut [u8],
     op: GateOperand,
     symbol: Symbol,
@@ -210,7 +211,7 @@ pub fn keeps_bounds(op: GateOperand, symbol: Symbol) -> bool
 // A gate qubit must not be indexed; else the bounds of index and slice.
 pub fn check_bounds(
     tree: &[u8],
-    index: &[u64],
+    index: &Index,
     out: &mut [u8],
     op: GateOperand,
     symbol: Symbol,

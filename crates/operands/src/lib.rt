@@ -8,6 +8,7 @@ use accepted::operands::operand_at;
 use context::Ends;
 use context::FoundSymbol;
 use context::GateOperand;
+use context::Index;
 use context::Number;
 use context::Sink;
 use lines::Expected;
@@ -41,7 +42,7 @@ ghost use Rattle.operands.specs.Widths.{measureWidths, uniform, agree};
 
 pub fn check_operand(
     tree: &[u8],
-    index: &[u64],
+    index: &Index,
     scratch: &[u8],
     out: &mut [u8],
     depth: usize,
@@ -81,7 +82,7 @@ fn operand_width(scratch: &[u8], depth: usize, op: GateOperand) -> Number
 // A measurement's source and target have one width.
 pub fn check_measure_widths(
     tree: &[u8],
-    index: &[u64],
+    index: &Index,
     scratch: &[u8],
     out: &mut [u8],
     depth: usize,
@@ -118,7 +119,7 @@ pub fn check_measure_widths(
 
 fn check_use_after_measure(
     tree: &[u8],
-    index: &[u64],
+    index: &Index,
     out: &mut [u8],
     keys: usize,
     marks: &[u16; 256],
@@ -166,7 +167,7 @@ fn is_quiet(scratch: &[u8], depth: usize, op: GateOperand, expected: Expected) -
 // An operand of a gate call, a barrier or a delay. Of most there is nothing to say but of their use.
 fn use_operand(
     tree: &[u8],
-    index: &[u64],
+    index: &Index,
     scratch: &[u8],
     out: &mut [u8],
     depth: usize,
@@ -189,7 +190,7 @@ fn use_operand(
 // A Vec of them.
 pub fn use_operands(
     tree: &[u8],
-    index: &[u64],
+    index: &Index,
     scratch: &[u8],
     out: &mut [u8],
     depth: usize,
@@ -241,7 +242,7 @@ fn register_widths(tree: &[u8], scratch: &[u8], depth: usize, at: usize) -> Widt
 // Registers in one gate call have one width.
 pub fn check_broadcasting(
     tree: &[u8],
-    index: &[u64],
+    index: &Index,
     scratch: &[u8],
     out: &mut [u8],
     depth: usize,

@@ -14,6 +14,7 @@ ghost use Rattle.promises.specs.Emitted.{Emitted};
 use accepted::numbers::span_at;
 use accepted::parts::skip_operand;
 use accepted::parts::skip_option_operand;
+use context::Index;
 use context::Sink;
 use lines::Message;
 use lines::Note;
@@ -34,7 +35,7 @@ pub fn measure_span(tree: &[u8], place: usize) -> Span
 // The smallest index of the slice that a mark covers.
 pub fn check_slice_use(
     tree: &[u8],
-    index: &[u64],
+    index: &Index,
     out: &mut [u8],
     keys: usize,
     marks: &[u16; 256],

@@ -24,6 +24,7 @@ use Rattle.sema.specs.Messages.{nameAt}
 use Rattle.lines.specs.Stored.{Shown}
 use Rattle.lines.specs.declared.Severity.{Severity}
 use Rattle.lines.specs.declared.Message.{Message}
+use Rattle.lines.specs.declared.Note.{Note}
 use Rattle.lines.specs.declared.Secondary.{Secondary}
 use Rattle.lines.specs.declared.Diagnostic.{Diagnostic as DiagnosticValue}
 use Rattle.lines.specs.Values.{secondaryOf, errorOf, Reported}
@@ -85,16 +86,22 @@ module _ (t : List Text) (c : Call) {text : List ℕ} (e : Shown text (nameAt t 
   unfolding standardBy
   standard-some p q k m = emitted-as m (ap (standardBy c) (sym k ∙ signature-is))
 
+  pub standard-fits : {s : Sink} {o : List ℕ} (p q : ℕ) (b : Bool) → f ≡ Signature.Standard p q → b ≡ (eqb (c .params) p && eqb (c .args) (q + c .controls)) → b ≡ true → SinkFits s → Emitted t (standardOf t c) s o s o
+  standard-fits p q b k is h m = standard-some p q k (arity-fits c p q Secondary.None b is h m)
+
   pub standard-none : {s : Sink} {o : List ℕ} {r : Sink} {o′ : List ℕ} {d : DiagnosticValue} → f ≡ Signature.None → d ≡ errorOf (Message.GateNotDefined (c .name)) (c .span) → Reported t d s o r o′ → Emitted t (standardOf t c) s o r o′
   unfolding standardBy
   standard-none k l m = emitted-as (emitted-one (rw l at m)) (ap (standardBy c) (sym k ∙ signature-is))
 
 -- a definition of the program, or none
-module _ {t : List Text} (gs : Table GateSig) (c : Call) {s : Sink} {o : List ℕ} {r : Sink} {o′ : List ℕ} {f : FoundGate} (e : foundGateOf f ≡ gs (c .name)) where
-  pub undefined : f ≡ FoundGate.None → Emitted t (standardOf t c) s o r o′ → Emitted t (signatureBy t gs c) s o r o′
+module _ {t : List Text} (gs : Table GateSig) (c : Call) {s : Sink} {o : List ℕ} {f : FoundGate} (e : foundGateOf f ≡ gs (c .name)) where
+  pub undefined : {r : Sink} {o′ : List ℕ} → f ≡ FoundGate.None → Emitted t (standardOf t c) s o r o′ → Emitted t (signatureBy t gs c) s o r o′
   unfolding signatureBy
   undefined k m = rw (← e, k, signatureBy) m
 
-  pub defined : (sig : GateValue) → f ≡ FoundGate.Some sig → Emitted t (arityBy c (sig .«param_count») (sig .«qubit_count») (some (Messages.definedHere (c .name), sig .«decl_span»))) s o r o′ → Emitted t (signatureBy t gs c) s o r o′
+  pub defined : {r : Sink} {o′ : List ℕ} (sig : GateValue) → f ≡ FoundGate.Some sig → Emitted t (arityBy c (sig .«param_count») (sig .«qubit_count») (some (Messages.definedHere (c .name), sig .«decl_span»))) s o r o′ → Emitted t (signatureBy t gs c) s o r o′
   unfolding signatureBy
   defined sig k m = rw (← e, k, signatureBy) m
+
+  pub defined-fits : (sig : GateValue) (b : Bool) → f ≡ FoundGate.Some sig → b ≡ (eqb (c .params) (sig .«param_count») && eqb (c .args) (sig .«qubit_count» + c .controls)) → b ≡ true → SinkFits s → Emitted t (signatureBy t gs c) s o s o
+  defined-fits sig b k is h m = defined sig k (arity-fits c _ _ (Secondary.Some (Note.DefinedHere (c .name)) (sig .«decl_span»)) b is h m)

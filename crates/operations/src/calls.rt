@@ -30,6 +30,7 @@ use accepted::numbers::u16_at;
 use accepted::parts::skip_operands;
 use constants::Total;
 use context::FoundGate;
+use context::Index;
 use context::Sink;
 use gates::Signature;
 use lines::Diagnostic;
@@ -101,7 +102,7 @@ fn is_arity(args: usize, qubits: usize, controls: u64) -> bool
 
 fn check_param_count(
     tree: &[u8],
-    index: &[u64],
+    index: &Index,
     out: &mut [u8],
     call: Call,
     params: usize,
@@ -128,7 +129,7 @@ fn check_param_count(
 
 fn check_qubit_count(
     tree: &[u8],
-    index: &[u64],
+    index: &Index,
     out: &mut [u8],
     call: Call,
     qubits: usize,
@@ -154,7 +155,8 @@ fn check_qubit_count(
     lines::report(out, sink, tree, index, d)
 }
 
-// Are the parameters and the arguments as many as there should be?
+// Are the parameters and the arguments as many as there should be? Of most calls they are, and nothing more is asked: the test stands
+// with each caller, since a struct that is passed on is stored first.
 fn fits_arity(call: Call, params: usize, qubits: usize) -> bool
     ensures { λ r. ⌜ r ≡ (eqb (call .params) params && eqb (call .args) (qubits + call .controls)) ⌝ }
 {
@@ -167,7 +169,7 @@ fn fits_arity(call: Call, params: usize, qubits: usize) -> bool
 // The counts that are wrong. With a note where the gate is defined in the program.
 fn report_arity(
     tree: &[u8],
-    index: &[u64],
+    index: &Index,
     out: &mut [u8],
     call: Call,
     params: usize,
@@ -182,44 +184,29 @@ fn report_arity(
     check_qubit_count(tree, index, out, call, qubits, decl, s)
 }
 
-// Most calls fit, and nothing more is asked.
-fn check_arity(
-    tree: &[u8],
-    index: &[u64],
-    out: &mut [u8],
-    call: Call,
-    params: usize,
-    qubits: usize,
-    decl: Secondary,
-    sink: Sink,
-) -> Sink
-    requires { ⌜ TextsAt (now tree) (now index) × (call .name < length (textsOf (now tree))) × NoteBelow (length (textsOf (now tree))) decl × SinkFits sink ⌝ }
-    ensures { λ r. ⌜ Emitted (textsOf (now (tree .entry))) (arityBy call params qubits (secondaryOf decl)) sink (now (out .entry)) r (now (out .exit)) ⌝ }
-{
-    if fits_arity(call, params, qubits) {
-        return sink;
-    }
-    report_arity(tree, index, out, call, params, qubits, decl, sink)
-}
-
 // A gate that the program does not define: a standard gate, or none.
-fn check_standard(tree: &[u8], index: &[u64], out: &mut [u8], call: Call, sink: Sink) -> Sink
+fn check_standard(tree: &[u8], index: &Index, out: &mut [u8], call: Call, sink: Sink) -> Sink
     requires { ⌜ TextsAt (now tree) (now index) × (call .name < length (textsOf (now tree))) × SinkFits sink ⌝ }
     ensures { λ r. ⌜ Emitted (textsOf (now (tree .entry))) (standardOf (textsOf (now (tree .entry))) call) sink (now (out .entry)) r (now (out .exit)) ⌝ }
 {
     let name = call.name;
     let standard = gates::standard_gate_signature(name_of(tree, index, name));
     match standard {
-        Signature::Standard { params, qubits } => check_arity(
-            tree,
-            index,
-            out,
-            call,
-            params,
-            qubits,
-            Secondary::None,
-            sink,
-        ),
+        Signature::Standard { params, qubits } => {
+            if fits_arity(call, params, qubits) {
+                return sink;
+            }
+            report_arity(
+                tree,
+                index,
+                out,
+                call,
+                params,
+                qubits,
+                Secondary::None,
+                sink,
+            )
+        }
         Signature::None => {
             let span = call.span;
             lines::report(
@@ -236,7 +223,7 @@ fn check_standard(tree: &[u8], index: &[u64], out: &mut [u8], call: Call, sink: 
 // A definition of the program goes before a standard gate.
 pub fn check_signature(
     tree: &[u8],
-    index: &[u64],
+    index: &Index,
     scratch: &[u8],
     out: &mut [u8],
     call: Call,
@@ -253,7 +240,10 @@ pub fn check_signature(
     let params = sig.param_count;
     let qubits = sig.qubit_count;
     let span = sig.decl_span;
-    check_arity(
+    if fits_arity(call, params, qubits) {
+        return sink;
+    }
+    report_arity(
         tree,
         index,
         out,
@@ -268,7 +258,7 @@ pub fn check_signature(
 // The modifiers at `at`, and the parameters behind them.
 pub fn check_values(
     tree: &[u8],
-    index: &[u64],
+    index: &Index,
     scratch: &[u8],
     out: &mut [u8],
     depth: usize,
@@ -289,7 +279,7 @@ pub fn check_values(
 // The operands at `at`: each by itself, and their widths.
 pub fn check_args(
     tree: &[u8],
-    index: &[u64],
+    index: &Index,
     scratch: &[u8],
     out: &mut [u8],
     depth: usize,

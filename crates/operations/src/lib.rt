@@ -22,6 +22,7 @@ use calls::check_args;
 use calls::check_signature;
 use calls::check_values;
 use context::After;
+use context::Index;
 use context::Sink;
 use lines::Expected;
 use lines::Message;
@@ -31,7 +32,7 @@ use measures::mark_measured;
 // An include says nothing and changes nothing.
 pub fn include(
     tree: &[u8],
-    index: &[u64],
+    index: &Index,
     scratch: &[u8],
     out: &mut [u8],
     left: usize,
@@ -50,7 +51,7 @@ pub fn include(
 // The operands of a barrier or a delay. The statement's span stands behind them.
 fn use_targets(
     tree: &[u8],
-    index: &[u64],
+    index: &Index,
     scratch: &[u8],
     out: &mut [u8],
     depth: usize,
@@ -82,7 +83,7 @@ fn use_targets(
 // A barrier uses its operands.
 pub fn barrier(
     tree: &[u8],
-    index: &[u64],
+    index: &Index,
     scratch: &[u8],
     out: &mut [u8],
     keys: usize,
@@ -115,7 +116,7 @@ pub fn barrier(
 // A delay: a numeric duration, and the operands it uses.
 pub fn delay(
     tree: &[u8],
-    index: &[u64],
+    index: &Index,
     scratch: &[u8],
     out: &mut [u8],
     keys: usize,
@@ -159,7 +160,7 @@ pub fn delay(
 // A reset clears the marks of its operand.
 pub fn reset(
     tree: &[u8],
-    index: &[u64],
+    index: &Index,
     scratch: &[u8],
     out: &mut [u8],
     keys: usize,
@@ -193,7 +194,7 @@ pub fn reset(
 // A measurement: its operands, and the marks that it sets.
 pub fn measure(
     tree: &[u8],
-    index: &[u64],
+    index: &Index,
     scratch: &[u8],
     out: &mut [u8],
     keys: usize,
@@ -232,7 +233,7 @@ pub fn measure(
 // A gate call: its arity, its modifiers and parameters, and its operands.
 pub fn gate_call(
     tree: &[u8],
-    index: &[u64],
+    index: &Index,
     scratch: &[u8],
     out: &mut [u8],
     keys: usize,

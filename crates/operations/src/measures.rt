@@ -24,6 +24,7 @@ use accepted::numbers::span_at;
 use accepted::operands::operand_at;
 use context::After;
 use context::GateOperand;
+use context::Index;
 use context::Sink;
 use lines::Expected;
 use lines::Message;
@@ -31,7 +32,7 @@ use span::Span;
 
 // Sets the marks of the measure statement at `at`.
 pub fn mark_measured(
-    index: &[u64],
+    index: &Index,
     scratch: &[u8],
     depth: usize,
     keys: usize,
@@ -51,7 +52,7 @@ pub fn mark_measured(
 // Was it measured before?
 fn warn_measured(
     tree: &[u8],
-    index: &[u64],
+    index: &Index,
     out: &mut [u8],
     keys: usize,
     marks: &[u16; 256],
@@ -79,7 +80,7 @@ fn warn_measured(
 // A target: a bit, or as many bits as there are qubits.
 fn check_target(
     tree: &[u8],
-    index: &[u64],
+    index: &Index,
     scratch: &[u8],
     out: &mut [u8],
     depth: usize,
@@ -107,7 +108,7 @@ fn check_target(
 // The Option of a target at `at`. The statement's span stands behind it.
 fn check_target_at(
     tree: &[u8],
-    index: &[u64],
+    index: &Index,
     scratch: &[u8],
     out: &mut [u8],
     depth: usize,
@@ -132,7 +133,7 @@ fn check_target_at(
 // What is said of a measurement of the qubit, with the Option of its target at `at`.
 pub fn check_measure(
     tree: &[u8],
-    index: &[u64],
+    index: &Index,
     scratch: &[u8],
     out: &mut [u8],
     depth: usize,

@@ -16,6 +16,7 @@ ghost use Rattle.context.specs.View.{keyBy, keyAt, keysIn, placeIn, marksOf, me
 ghost use Rattle.sheet.specs.Sheet.{Indexed, lookupIn, smaller, offer, leastIn, smallestIn, Distinct, Covers, reaches, touches, measuring, stored, first};
 use context::Ends;
 use context::GateOperand;
+use context::Index;
 use context::Number;
 
 // The smallest index of a slice that a mark covers, and the mark's place.
@@ -60,7 +61,7 @@ fn index_head(x: usize) -> u64
 }
 
 // The place of number k where it has one and is the key, or else the one that was met before.
-fn met(index: &[u64], k: usize, place: u16, head: u64, i: u64, before: u16) -> u16
+fn met(index: &Index, k: usize, place: u16, head: u64, i: u64, before: u16) -> u16
     requires { ⌜ (length (now index) ≡ 768) × (k < 256) ⌝ }
     ensures { λ r. ⌜ r ≡ first (cond (sameKey (keyAt (now (index .entry)) k) (keyBy head i)) place 0) before ⌝ }
 {
@@ -74,7 +75,7 @@ fn met(index: &[u64], k: usize, place: u16, head: u64, i: u64, before: u16) -> u
 }
 
 // The place of a key, or where it has none that of the whole key. No two keys are equal, so one without a mark is not read.
-fn place_of(sheet: &[u16; 256], index: &[u64], count: usize, head: u64, i: u64, whole: u64) -> u16
+fn place_of(sheet: &[u16; 256], index: &Index, count: usize, head: u64, i: u64, whole: u64) -> u16
     requires { ⌜ Indexed (now index) count ⌝ }
     requires { ⌜ Distinct (keysIn (now index) count) ⌝ }
     ensures { λ r. ⌜ r ≡ first (placeIn (keysIn (now (index .entry)) count) (now (sheet .entry)) (keyBy head i)) (placeIn (keysIn (now (index .entry)) count) (now (sheet .entry)) (keyBy whole 0)) ⌝ }
@@ -92,7 +93,7 @@ fn place_of(sheet: &[u16; 256], index: &[u64], count: usize, head: u64, i: u64, 
 }
 
 // The place of the mark that covers a name, or an index of it; 0 where there is none.
-pub fn lookup(sheet: &[u16; 256], index: &[u64], count: usize, x: usize, i: Number) -> u16
+pub fn lookup(sheet: &[u16; 256], index: &Index, count: usize, x: usize, i: Number) -> u16
     requires { ⌜ Indexed (now index) count ⌝ }
     requires { ⌜ Distinct (keysIn (now index) count) ⌝ }
     requires { ⌜ x < 256 ⌝ }
@@ -155,7 +156,7 @@ fn nearer(i: u64, place: u16, best: Covered) -> Covered
 }
 
 // The smallest index so far, key number k taken in where it is of the slice and has a place.
-fn offered(index: &[u64], k: usize, x: usize, a: u64, b: u64, place: u16, best: Covered) -> Covered
+fn offered(index: &Index, k: usize, x: usize, a: u64, b: u64, place: u16, best: Covered) -> Covered
     requires { ⌜ (length (now index) ≡ 768) × (k < 256) ⌝ }
     ensures { λ r. ⌜ r ≡ cond (eqb (keyAt (now (index .entry)) k .name) x && inSlice (a, b) (keyAt (now (index .entry)) k .index)) (offer (keyAt (now (index .entry)) k .index) place best) best ⌝ }
 {
@@ -174,7 +175,7 @@ fn offered(index: &[u64], k: usize, x: usize, a: u64, b: u64, place: u16, best: 
 }
 
 // The smallest index of a slice whose own key is marked.
-fn least(sheet: &[u16; 256], index: &[u64], count: usize, x: usize, a: u64, b: u64) -> Covered
+fn least(sheet: &[u16; 256], index: &Index, count: usize, x: usize, a: u64, b: u64) -> Covered
     requires { ⌜ Indexed (now index) count ⌝ }
     ensures { λ r. ⌜ r ≡ leastIn x (a, b) (keysIn (now (index .entry)) count) (now (sheet .entry)) ⌝ }
 {
@@ -190,7 +191,7 @@ fn least(sheet: &[u16; 256], index: &[u64], count: usize, x: usize, a: u64, b: u
 // The smallest index of a slice that a mark covers.
 pub fn smallest(
     sheet: &[u16; 256],
-    index: &[u64],
+    index: &Index,
     count: usize,
     x: usize,
     a: u64,
@@ -242,7 +243,7 @@ fn touched(op: GateOperand, size: Number, all: bool, head: u64, i: u64) -> bool
 
 fn store(
     sheet: &mut [u16; 256],
-    index: &[u64],
+    index: &Index,
     count: usize,
     op: GateOperand,
     size: Number,
@@ -266,7 +267,7 @@ fn store(
 // tree's measure statements set.
 pub fn set(
     sheet: &mut [u16; 256],
-    index: &[u64],
+    index: &Index,
     count: usize,
     op: GateOperand,
     size: Number,
@@ -283,7 +284,7 @@ pub fn set(
 }
 
 // `clear_measured`.
-pub fn clear(sheet: &mut [u16; 256], index: &[u64], count: usize, op: GateOperand)
+pub fn clear(sheet: &mut [u16; 256], index: &Index, count: usize, op: GateOperand)
     requires { ⌜ length (now sheet) ≡ 256 ⌝ }
     requires { ⌜ Indexed (now index) count ⌝ }
     ensures placed { λ _. ⌜ ((tree : List ℕ) → Placed tree (now (sheet .entry)) → Placed tree (now (sheet .exit))) ⌝ }

@@ -210,12 +210,16 @@ pub fn get(scratch: &[u8], depth: usize, x: usize) -> FoundSymbol
     FoundSymbol::None
 }
 
-// The symbol of a name in the innermost scope.
+// The symbol of a name in the innermost scope. Most names that are asked for have none there.
 pub fn get_current(scratch: &[u8], depth: usize, x: usize) -> FoundSymbol
     requires { ⌜ (65536 ≤ length (now scratch)) × (0 < depth) × (depth ≤ 9) × (x < 256) ⌝ }
     ensures { λ r. ⌜ foundOf r ≡ getCurrent (scopesOf (now (scratch .entry)) depth) x ⌝ }
 {
-    symbol_at(scratch, depth - 1, x)
+    let level = depth - 1;
+    if scratch[level * LEVEL + x] == 0 {
+        return FoundSymbol::None;
+    }
+    symbol_at(scratch, level, x)
 }
 
 // The size of the symbol that a name shows.

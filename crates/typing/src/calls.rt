@@ -4,6 +4,7 @@ use crate::Wanted;
 use crate::demands::check_wanted;
 use context::FoundFunction;
 use context::FunctionSig;
+use context::Index;
 use context::Sink;
 use context::Typing;
 use lines::Message;
@@ -29,7 +30,7 @@ ghost use Rattle.typing.specs.Checks.{CalleeOf, argumentAt};
 // So many arguments against the parameters of a function that is defined.
 fn count_arguments(
     tree: &[u8],
-    index: &[u64],
+    index: &Index,
     out: &mut [u8],
     x: usize,
     n: usize,
@@ -62,7 +63,7 @@ fn count_arguments(
 // The function that is called with so many arguments.
 pub fn check_callee(
     tree: &[u8],
-    index: &[u64],
+    index: &Index,
     scratch: &[u8],
     out: &mut [u8],
     x: usize,
@@ -99,7 +100,7 @@ pub fn check_callee(
 // An argument against the parameter of its place, where the function has one.
 pub fn check_argument(
     tree: &[u8],
-    index: &[u64],
+    index: &Index,
     scratch: &[u8],
     out: &mut [u8],
     x: usize,

@@ -4,6 +4,7 @@ use accepted::numbers::u16_at;
 use accepted::numbers::u64_at;
 use ast::ClassicalType;
 use context::FoundSymbol;
+use context::Index;
 use context::Number;
 use context::Sink;
 use context::Symbol;
@@ -39,7 +40,7 @@ pub fn has_type(ty: ClassicalType, next: usize, sink: Sink) -> Typing
 // No type, and an error said.
 fn refuse(
     tree: &[u8],
-    index: &[u64],
+    index: &Index,
     out: &mut [u8],
     sink: Sink,
     message: Message,
@@ -60,7 +61,7 @@ fn refuse(
 // A name, by its symbol's kind.
 fn ident_type(
     tree: &[u8],
-    index: &[u64],
+    index: &Index,
     out: &mut [u8],
     x: usize,
     span: Span,
@@ -91,7 +92,7 @@ fn ident_type(
 
 pub fn check_ident(
     tree: &[u8],
-    index: &[u64],
+    index: &Index,
     scratch: &[u8],
     out: &mut [u8],
     depth: usize,
@@ -114,7 +115,7 @@ pub fn check_ident(
 // A name with an index, by its symbol.
 fn index_type(
     tree: &[u8],
-    index: &[u64],
+    index: &Index,
     out: &mut [u8],
     x: usize,
     i: u64,
@@ -158,7 +159,7 @@ fn index_type(
 
 pub fn check_index(
     tree: &[u8],
-    index: &[u64],
+    index: &Index,
     scratch: &[u8],
     out: &mut [u8],
     depth: usize,
@@ -179,7 +180,7 @@ pub fn check_index(
 }
 
 // The type of an operand with a minus before it; the span stands behind the operand.
-pub fn negation(tree: &[u8], index: &[u64], out: &mut [u8], t: Typing) -> Typing
+pub fn negation(tree: &[u8], index: &Index, out: &mut [u8], t: Typing) -> Typing
     requires { ⌜ TextsAt (now tree) (now index) × SinkFits (t .sink) × (t .next + 8 ≤ length (now tree)) ⌝ }
     ensures { λ r. ⌜ Found (textsOf (now (tree .entry))) (negType (spanAt (now (tree .entry)) (t .next)) (typedOf (t .typed))) (t .next + 8) (t .sink) (now (out .entry)) r (now (out .exit)) ⌝ }
 {
@@ -237,7 +238,7 @@ fn pair_message(case: u8) -> Message
 // The type of two operands with an operator or a comparison between them; the span stands behind them.
 pub fn operation(
     tree: &[u8],
-    index: &[u64],
+    index: &Index,
     out: &mut [u8],
     case: u8,
     l: Typed,

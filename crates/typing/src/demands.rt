@@ -2,6 +2,7 @@
 use crate::Wanted;
 use accepted::numbers::span_at;
 use ast::ClassicalType;
+use context::Index;
 use context::Sink;
 use context::Typing;
 use lines::Message;
@@ -39,7 +40,7 @@ fn complaint(wanted: Wanted, actual: ClassicalType) -> Message
 }
 
 // An expression that was just checked; its span stands in its last 8 bytes.
-pub fn check_wanted(tree: &[u8], index: &[u64], out: &mut [u8], wanted: Wanted, t: Typing) -> Sink
+pub fn check_wanted(tree: &[u8], index: &Index, out: &mut [u8], wanted: Wanted, t: Typing) -> Sink
     requires { ⌜ TextsAt (now tree) (now index) × SinkFits (t .sink) × NamedBelow (length (textsOf (now tree))) wanted × (8 ≤ t .next) × (t .next ≤ length (now tree)) ⌝ }
     ensures { λ r. ⌜ Emitted (textsOf (now (tree .entry))) (unmet wanted (spanAt (now (tree .entry)) (t .next - 8)) (typedOf (t .typed))) (t .sink) (now (out .entry)) r (now (out .exit)) ⌝ }
 {

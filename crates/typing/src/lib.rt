@@ -8,6 +8,7 @@ use accepted::numbers::span_at;
 use accepted::numbers::u16_at;
 use ast::ClassicalType;
 use context::After;
+use context::Index;
 use context::Sink;
 use context::Typing;
 use lines::Message;
@@ -51,7 +52,7 @@ enum Wanted {
 // The arguments of a call against the parameters of the function x.
 fn check_arguments(
     tree: &[u8],
-    index: &[u64],
+    index: &Index,
     scratch: &[u8],
     out: &mut [u8],
     depth: usize,
@@ -79,7 +80,7 @@ fn check_arguments(
 
 fn check_call(
     tree: &[u8],
-    index: &[u64],
+    index: &Index,
     scratch: &[u8],
     out: &mut [u8],
     depth: usize,
@@ -120,7 +121,7 @@ fn check_call(
 // Validate an expression and return its inferred classical type.
 pub fn check_expr(
     tree: &[u8],
-    index: &[u64],
+    index: &Index,
     scratch: &[u8],
     out: &mut [u8],
     depth: usize,
@@ -156,7 +157,7 @@ pub fn check_expr(
 // An expression whose type must be as it is wanted.
 fn require(
     tree: &[u8],
-    index: &[u64],
+    index: &Index,
     scratch: &[u8],
     out: &mut [u8],
     depth: usize,
@@ -176,7 +177,7 @@ fn require(
 // An expression that must have a type.
 pub fn require_type(
     tree: &[u8],
-    index: &[u64],
+    index: &Index,
     scratch: &[u8],
     out: &mut [u8],
     depth: usize,
@@ -203,7 +204,7 @@ pub fn require_type(
 // An expression that must be numeric; the message stands at its span.
 pub fn require_numeric(
     tree: &[u8],
-    index: &[u64],
+    index: &Index,
     scratch: &[u8],
     out: &mut [u8],
     depth: usize,
@@ -229,7 +230,7 @@ pub fn require_numeric(
 // The Option of a count that a control holds; the control's span stands behind it.
 fn check_control(
     tree: &[u8],
-    index: &[u64],
+    index: &Index,
     scratch: &[u8],
     out: &mut [u8],
     depth: usize,
@@ -267,7 +268,7 @@ fn check_control(
 
 fn check_modifier(
     tree: &[u8],
-    index: &[u64],
+    index: &Index,
     scratch: &[u8],
     out: &mut [u8],
     depth: usize,
@@ -310,7 +311,7 @@ fn check_modifier(
 // A Vec of modifiers.
 pub fn check_modifiers(
     tree: &[u8],
-    index: &[u64],
+    index: &Index,
     scratch: &[u8],
     out: &mut [u8],
     depth: usize,
@@ -335,7 +336,7 @@ pub fn check_modifiers(
 // A Vec of gate parameters.
 pub fn check_params(
     tree: &[u8],
-    index: &[u64],
+    index: &Index,
     scratch: &[u8],
     out: &mut [u8],
     depth: usize,

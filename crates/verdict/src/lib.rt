@@ -31,9 +31,9 @@ pub fn judge(sink: Sink, room: usize) -> Answer
     ensures answers { λ r. ⌜ ((p : Program) → Learnt p sink → answerOf r ≡ judgeDiagnostics room p (analyze p)) ⌝ }
     ensures fits { λ r. ⌜ (isAccepted (answerOf r) ≡ true → Listable sink room) ⌝ }
 {
-    let n = sink.n;
-    let errors = sink.errors;
-    let warnings = sink.warnings;
+    let n = sink.n as usize;
+    let errors = sink.errors as usize;
+    let warnings = sink.warnings as usize;
     let count = errors + warnings;
     if 256 < count {
         return Answer::Refused(8, 0);
@@ -59,6 +59,9 @@ pub fn write_staged(stage: &[u8], listing: &mut [u8], sink: Sink)
     requires { ⌜ (sink .n ≤ length (now stage)) × (length (headOf (sink .errors) (sink .warnings)) + sink .n ≤ length (now listing)) ⌝ }
     ensures { λ _. ⌜ now (listing .exit) ≡ sets (sets (now (listing .entry)) 0 (headOf (sink .errors) (sink .warnings))) (length (headOf (sink .errors) (sink .warnings))) (take (sink .n) (now (stage .entry))) ⌝ }
 {
-    let after = lines::first_line(listing, sink.errors, sink.warnings);
-    bytes::copy(&stage[..sink.n], &mut listing[after..]);
+    let n = sink.n as usize;
+    let errors = sink.errors as usize;
+    let warnings = sink.warnings as usize;
+    let after = lines::first_line(listing, errors, warnings);
+    bytes::copy(&stage[..n], &mut listing[after..]);
 }

@@ -3,6 +3,7 @@
 
 use accepted::numbers::u16_at;
 use context::After;
+use context::Index;
 use context::Sink;
 use context::State;
 ghost use mathlib.Core.Path.{_≡_};
@@ -29,7 +30,7 @@ fn moved(st: State, a: After) -> State
 
 fn gate_def(
     tree: &[u8],
-    index: &[u64],
+    index: &Index,
     scratch: &mut [u8],
     out: &mut [u8],
     keys: usize,
@@ -49,7 +50,7 @@ fn gate_def(
 
 fn branch(
     tree: &[u8],
-    index: &[u64],
+    index: &Index,
     scratch: &mut [u8],
     out: &mut [u8],
     keys: usize,
@@ -71,7 +72,7 @@ fn branch(
 // The `else` of an `if`, from the entry marks; t is the state after the `then` body. Both exits are united.
 fn branch_else(
     tree: &[u8],
-    index: &[u64],
+    index: &Index,
     scratch: &mut [u8],
     out: &mut [u8],
     keys: usize,
@@ -105,7 +106,7 @@ fn branch_else(
 
 fn for_loop(
     tree: &[u8],
-    index: &[u64],
+    index: &Index,
     scratch: &mut [u8],
     out: &mut [u8],
     keys: usize,
@@ -123,7 +124,7 @@ fn for_loop(
 
 fn while_loop(
     tree: &[u8],
-    index: &[u64],
+    index: &Index,
     scratch: &mut [u8],
     out: &mut [u8],
     keys: usize,
@@ -142,7 +143,7 @@ fn while_loop(
 // The body of a loop, and its span behind it. Entry and exit are united.
 fn loop_body(
     tree: &[u8],
-    index: &[u64],
+    index: &Index,
     scratch: &mut [u8],
     out: &mut [u8],
     keys: usize,
@@ -173,7 +174,7 @@ fn is_plain(case: u8) -> bool
 // A statement without statements in it.
 fn plain_stmt(
     tree: &[u8],
-    index: &[u64],
+    index: &Index,
     scratch: &mut [u8],
     out: &mut [u8],
     keys: usize,
@@ -204,7 +205,7 @@ fn plain_stmt(
 // A statement with statements in it.
 fn body_stmt(
     tree: &[u8],
-    index: &[u64],
+    index: &Index,
     scratch: &mut [u8],
     out: &mut [u8],
     keys: usize,
@@ -227,7 +228,7 @@ fn body_stmt(
 // A body: statements behind their two-byte count.
 pub fn analyze_stmts(
     tree: &[u8],
-    index: &[u64],
+    index: &Index,
     scratch: &mut [u8],
     out: &mut [u8],
     keys: usize,

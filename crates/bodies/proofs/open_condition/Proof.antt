@@ -8,7 +8,7 @@ use Rattle.bodies.proofs.open_condition.Tie as tie
 
 require-type-requires : tie.Need-require-type-requires
 require-type-requires c κs =
-    let s = c .before .before .before .before .before .before in
+    let s = c .before .before .before .before .before in
     let texts = s .pre .0 in
     let room = s .pre .2 in
     let deep : 9 - s .args .left ≤ 9 = omega arith in

@@ -10,7 +10,7 @@ use Rattle.bodies.proofs.open_gate.Tie as tie
 
 define-gate-requires : tie.Need-define-gate-requires
 define-gate-requires c κs =
-    let s = c .before .before .before .before .before .before .before .before .before .before .before .before in
+    let s = c .before .before .before .before .before .before .before .before .before .before .before in
     let p = c .before .before .before .before .before .before .before .gate-parts .ensures in
     let l = stmt-left _ _ _ _ (s .pre .4) in
     let few = s .pre .0 .few in
@@ -22,8 +22,8 @@ open-gate-spec =
     (λ c κs. search needs)  -- gate-parts-requires
     (λ c κs. search needs)  -- report-gate-requires
     (λ c. search needs)  -- sub-define-gate
-    (λ c. let s = c .before .before .before .before .before .before .before .before .before .before .before .before in let i = gateDef-name-in _ _ _ _ (s .pre .4) (s .pre .6) in omega arith)  -- add-define-gate
+    (λ c. let s = c .before .before .before .before .before .before .before .before .before .before .before in let i = gateDef-name-in _ _ _ _ (s .pre .4) (s .pre .6) in omega arith)  -- add-define-gate
     define-gate-requires
     (λ c. search needs)  -- same-length
     (λ c. search needs)  -- same-length-2
-    (λ c marks. let s = c .before .before .before .before .before .before .before .before .before .before .before .before .before .before .before in gate-opened _ _ (stateOf (s .args .at) (s .args .sink) marks) _ _ _ _ _ _ (c .before .before .before .before .before .before .before .before .before .before .gate-parts .ensures) (c .before .before .before .before .before .before .report-gate .ensures) (c .before .before .define-gate .ensures)))  -- returns
+    (λ c marks. let s = c .before .before .before .before .before .before .before .before .before .before .before .before .before .before in gate-opened _ _ (stateOf (s .args .at) (s .args .sink) marks) _ _ _ _ _ _ (c .before .before .before .before .before .before .before .before .before .before .gate-parts .ensures) (c .before .before .before .before .before .before .report-gate .ensures) (c .before .before .define-gate .ensures)))  -- returns

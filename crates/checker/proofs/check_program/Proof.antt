@@ -17,7 +17,6 @@ check-program-spec =
     (λ c κs. (program-body _ (c .before .before .before .before .before .before .before .before .before .before .before .before .pre .0) _ (c .before .before .before .before .before .before .before .place-texts .ensures .0), omega arith, c .before .before .before .before .before .before .before .place-texts .ensures .1 .few, omega (arith, c .before .before .before .scratch .given, c .before .before .before .before .before .before .before .before .before .before .before .before .pre .1), record { size = c .before .before .before .before .before .before .before .place-texts .ensures .1 .size; few = omega arith }))  -- collect-requires
     (λ c. search needs)  -- same-length
     (λ c. let h = c .before .before .before .before .before .before .before .before .before .before .before .before .before .before .before .before .before .pre .0 in let t = c .before .before .before .before .before .before .before .before .before .before .before .before .place-texts .ensures in let z = c .before .before .before .before .before .before .before .before .before .enter .ensures in let k = c .before .before .before .before .collect .ensures in program-many _ h _ (t .0) _ _ _ _ _ _ _ (t .1) z k refl refl (c .if1 .taken))  -- returns
-    (λ c. search needs)  -- slice-aggregate-list
     (λ c κs. let h = c .before .before .before .before .before .before .before .before .before .before .before .before .before .before .before .before .before .before .before .before .pre .0 in let t = c .before .before .before .before .before .before .before .before .before .before .before .before .before .before .before .place-texts .ensures in let z = c .before .before .before .before .before .before .before .before .before .before .before .before .enter .ensures in let k = c .before .before .before .before .before .before .before .collect .ensures in let few = c .before .before .before .if1 .left in (program-walkable _ h _ (t .0) _ _ _ _ _ _ _ (t .1) z k refl refl few, program-room _ h _ (t .0) _ _ _ _ _ _ _ (t .1) z k refl refl (c .before .before .before .before .before .before .before .before .before .before .before .before .before .before .before .before .before .before .before .before .pre .1), h, t .0, program-keys _ h _ (t .0) _ _ _ _ _ _ _ (t .1) z k refl refl few))  -- list-requires
     (λ c. search needs)  -- same-length-2
     (λ c. search needs)  -- same-length-3

@@ -10,18 +10,18 @@ use Rattle.declarations.proofs.classical_decl.Tie as tie
 
 declare-requires : tie.Need-declare-requires
 declare-requires c κs =
-    let s = c .before .before .before .before .before .before .before .before .before in
+    let s = c .before .before .before .before .before .before .before .before in
     (record { texts = s .pre .0 .texts; room = s .pre .0 .room; deep = omega arith; fits = s .pre .0 .fits }, omega arith, c .before .before .before .before .declaration-at .ensures .named)
 
 check-classical-requires : tie.Need-check-classical-requires
 check-classical-requires c κs =
-    let s = c .before .before .before .before .before .before .before .before .before .before .before .before .before .before .before .before in
+    let s = c .before .before .before .before .before .before .before .before .before .before .before .before .before .before .before in
     let b = c .before .before .before .before .before .before .declare .ensures in
     (record { texts = s .pre .0 .texts; room = room-kept (b .becomes) (s .pre .0 .room); deep = omega arith; fits = b .emitted .fits }, c .before .before .before .before .before .before .before .before .before .before .before .declaration-at .ensures .named, s .pre .1, s .pre .3)
 
 returns : tie.Need-returns
 returns c keys marks placed =
-    let s = c .before .before .before .before .before .before .before .before .before .before .before .before .before .before .before .before .before .before .before in
+    let s = c .before .before .before .before .before .before .before .before .before .before .before .before .before .before .before .before .before .before in
     let d = c .before .before .before .before .before .before .before .before .before .before .before .before .before .before .declaration-at .ensures in
     classical-walked _ _ keys _ (stateOf _ _ marks) (s .pre .1) (s .pre .3) _ _ (passed-ready (s .pre .0) placed) _ (d .next) (d .after) (d .span _) (c .before .before .before .before .before .before .before .before .before .declare .ensures) (c .before .before .check-classical .ensures)
 

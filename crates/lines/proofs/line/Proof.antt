@@ -8,17 +8,17 @@ use Rattle.lines.proofs.line.Tie as tie
 
 write-requires : tie.Need-write-requires
 write-requires c κs =
-    let s = c .before .before .before .before .before .before .before .before .before .pre in
+    let s = c .before .before .before .before .before .before .before .before .pre in
     (s .1, omega (arith, s .0, c .before .before .before .head .ensures .within), s .3)
 
 copy-requires : tie.Need-copy-requires
 copy-requires c κs =
-    let s = c .before .before .before .before .before .before .before .before .before .before .before .before .before .before in
+    let s = c .before .before .before .before .before .before .before .before .before .before .before .before .before in
     omega (arith, s .pre .0, c .before .before .before .before .before .before .before .before .head .ensures .within, c .before .before .before .before .write .ensures .within, row-room (s .args .p .kind))
 
 returns : tie.Need-returns
 returns c =
-    let a = c .before .before .before .before .before .before .before .before .before .before .before .before .before .before .before .before .before .args in
+    let a = c .before .before .before .before .before .before .before .before .before .before .before .before .before .before .before .before .args in
     line-said _ (a .letter) (a .span) (a .p) (c .before .before .before .before .before .before .before .before .before .before .before .head .ensures) (c .before .before .before .before .before .before .before .write .ensures) (c .before .before .copy .ensures)
 
 pub line-spec : {M : Type 1} → statement M

@@ -27,6 +27,7 @@ returns-2 c =
 pub report-spec : {M : Type 1} → statement M
 report-spec =
     tie.close (tie.spec
+    (λ c. search needs)  -- cast-n
     (λ c. search needs)  -- add-if1
     (λ c. let s = c .before .before .before .before in report-past _ (s .args .d) (s .args .sink) _ (s .pre .2) (c .if1 .taken))  -- returns
     (λ c. search needs)  -- slice-aggregate-message-line

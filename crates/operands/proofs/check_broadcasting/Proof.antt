@@ -7,17 +7,17 @@ use Rattle.operands.proofs.check_broadcasting.Tie as tie
 
 returns : tie.Need-returns
 returns c =
-    let p = c .before .before .before .before .before .before .before .pre in
+    let p = c .before .before .before .before .before .before .pre in
     broadcast-none _ _ _ (p .3) _ (c .before .before .register-widths .ensures) (p .4) (c .enum-told .given .1)
 
 returns-2 : tie.Need-returns-2
 returns-2 c =
-    let p = c .before .before .before .before .before .before .before .pre in
+    let p = c .before .before .before .before .before .before .pre in
     broadcast-all _ _ _ (p .3) _ (c .before .before .register-widths .ensures) (p .4) (c .enum-told2 .given .1)
 
 returns-3 : tie.Need-returns-3
 returns-3 c =
-    let p = c .before .before .before .before .before .before .before .before .before .before .before .before .pre in
+    let p = c .before .before .before .before .before .before .before .before .before .before .before .pre in
     broadcast-differ _ _ _ (p .3) _ (c .before .before .before .before .before .before .before .register-widths .ensures) (c .before .before .before .before .before .enum-told3 .given .1) (c .before .before .before .error .ensures) (c .before .before .report .ensures)
 
 pub check-broadcasting-spec : {M : Type 1} → statement M

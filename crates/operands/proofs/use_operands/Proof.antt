@@ -18,7 +18,7 @@ abbrev μ-loop : tie.MeasureT-loop
 
 use-operand-requires : tie.Need-use-operand-requires Inv-loop μ-loop
 use-operand-requires c κs =
-    let p = c .before .before .before .before .before .before .before .before .before .before .before .pre in
+    let p = c .before .before .before .before .before .before .before .before .before .before .pre in
     let i = c .before .before .before .before .loop .inv in
     (p .0, p .1, p .2, p .3, p .4, p .5, operand-below _ _ _ (c .before .before .operand-at .result .operand) (c .before .before .operand-at .ensures), i .fits)
 
@@ -27,7 +27,7 @@ use-operands-spec =
     tie.close (tie.spec Inv-loop μ-loop
     (λ c. search counted-in)  -- shared-slice-read-wide
     (λ c κs. search needs)  -- wide-requires
-    (λ c. let i = counted-in _ _ _ _ _ (c .before .before .before .before .before .before .pre .6) in omega arith)  -- add-k
+    (λ c. let i = counted-in _ _ _ _ _ (c .before .before .before .before .before .pre .6) in omega arith)  -- add-k
     (λ c. search using-start)  -- loop-holds
     (λ c κs. search left-first)  -- operand-at-requires
     use-operand-requires

@@ -69,10 +69,10 @@ module _ (t : ℕ) where
   check-arguments-asks Need = Need check-arguments-calls check-arguments-at check-arguments.Post check-arguments-Inv-loop check-arguments-μ-loop
 
   check-arguments-check-expr-requires : check-arguments-asks check-arguments-lts.Need-check-expr-requires
-  check-arguments-check-expr-requires c κs = (omega arith, (c .before .before .before .before .before .before .before .before .before .pre .1 .0, c .before .before .loop .inv .0 .owes .fits, arguing-first (c .before .before .loop .inv .0) (c .before .loop-test .taken)))
+  check-arguments-check-expr-requires c κs = (omega arith, (c .before .before .before .before .before .before .before .before .pre .1 .0, c .before .before .loop .inv .0 .owes .fits, arguing-first (c .before .before .loop .inv .0) (c .before .loop-test .taken)))
 
   check-arguments-check-argument-requires : check-arguments-asks check-arguments-lts.Need-check-argument-requires
-  check-arguments-check-argument-requires c κs = let p = c .before .before .before .before .before .before .before .before .before .before .before .before .before .pre .1 in let h = arguing-first (c .before .before .before .before .before .before .loop .inv .0) (c .before .before .before .before .before .loop-test .taken) in let e = c .before .before .before .check-expr .ensures .next in (p .0 .texts, p .0 .room, c .before .before .before .check-expr .ensures .emitted .fits, p .2, p .3, span-room _ _ _ _ h _ e, span-in _ _ _ _ h _ e)
+  check-arguments-check-argument-requires c κs = let p = c .before .before .before .before .before .before .before .before .before .before .before .before .pre .1 in let h = arguing-first (c .before .before .before .before .before .before .loop .inv .0) (c .before .before .before .before .before .loop-test .taken) in let e = c .before .before .before .check-expr .ensures .next in (p .0 .texts, p .0 .room, c .before .before .before .check-expr .ensures .emitted .fits, p .2, p .3, span-room _ _ _ _ h _ e, span-in _ _ _ _ h _ e)
 
   check-arguments-loop-again : check-arguments-asks check-arguments-lts.Need-loop-again
   check-arguments-loop-again c = (arguing-more (c .before .before .before .before .before .before .before .before .before .loop .inv .0) (c .before .before .before .before .before .before .before .before .loop-test .taken) (c .before .before .before .before .before .before .check-expr .ensures) (c .before .before .check-argument .ensures), search needs)
@@ -80,10 +80,10 @@ module _ (t : ℕ) where
   check-arguments-closed : {M : Type 1} → check-arguments-lts.Closed check-arguments-calls check-arguments-at check-arguments.Post M
   check-arguments-closed =
       check-arguments-lts.spec check-arguments-calls check-arguments-at check-arguments.Post check-arguments-Inv-loop check-arguments-μ-loop
-      (λ c. counted-in _ _ _ _ _ (c .before .before .before .before .before .pre .1 .4))  -- shared-slice-read-wide: let n = wide(tree[at]);
+      (λ c. counted-in _ _ _ _ _ (c .before .before .before .before .pre .1 .4))  -- shared-slice-read-wide: let n = wide(tree[at]);
       (λ c κs. search needs)  -- wide-requires
-      (λ c. let i = counted-in _ _ _ _ _ (c .before .before .before .before .before .before .pre .1 .4) in omega arith)  -- add-k: let mut k = at + 1;
-      (λ c. let p = c .before .before .before .before .before .before .pre .1 in (arguing-start (c .wide .ensures .0) (p .4) (p .1), refl))  -- loop-holds: while i < n {
+      (λ c. let i = counted-in _ _ _ _ _ (c .before .before .before .before .before .pre .1 .4) in omega arith)  -- add-k: let mut k = at + 1;
+      (λ c. let p = c .before .before .before .before .before .pre .1 in (arguing-start (c .wide .ensures .0) (p .4) (p .1), refl))  -- loop-holds: while i < n {
       check-arguments-check-expr-requires check-arguments-check-argument-requires
       (λ c. omega (arith, c .before .before .before .before .before .before .before .before .before .before .wide .ensures .1))  -- add-i: i += 1;
       (λ c. omega arith)  -- loop-less: while i < n {
@@ -98,35 +98,35 @@ module _ (t : ℕ) where
   check-call-asks Need = Need check-call-calls check-call-at check-call.Post
 
   check-call-add-next : check-call-asks check-call-lts.Need-add-next
-  check-call-add-next c = let p = c .before .before .before .before .before .before .before .pre .1 in let i = call-inside _ _ _ _ (p .2) (p .3) _ (c .before .skip-exprs .ensures) in omega arith
+  check-call-add-next c = let p = c .before .before .before .before .before .before .pre .1 in let i = call-inside _ _ _ _ (p .2) (p .3) _ (c .before .skip-exprs .ensures) in omega arith
 
   check-call-check-callee-requires : check-call-asks check-call-lts.Need-check-callee-requires
-  check-call-check-callee-requires c κs = let p = c .before .before .before .before .before .before .before .before .before .before .pre .1 in (p .0 .texts, p .0 .room, p .1, name-below (c .before .before .before .before .before .u16-at .ensures .0) (call-name _ _ _ _ (p .2) (p .3)))
+  check-call-check-callee-requires c κs = let p = c .before .before .before .before .before .before .before .before .before .pre .1 in (p .0 .texts, p .0 .room, p .1, name-below (c .before .before .before .before .before .u16-at .ensures .0) (call-name _ _ _ _ (p .2) (p .3)))
 
   check-call-add-check-arguments : check-call-asks check-call-lts.Need-add-check-arguments
-  check-call-add-check-arguments c = let p = c .before .before .before .before .before .before .before .before .before .before .before .before .before .before .before .pre .1 in let i = call-name-in _ _ _ _ (p .2) (p .3) in omega arith
+  check-call-add-check-arguments c = let p = c .before .before .before .before .before .before .before .before .before .before .before .before .before .before .pre .1 in let i = call-name-in _ _ _ _ (p .2) (p .3) in omega arith
 
   check-call-sub-check-arguments : check-call-asks check-call-lts.Need-sub-check-arguments
-  check-call-sub-check-arguments c = let l = expr-left _ _ _ _ (c .before .before .before .before .before .before .before .before .before .before .before .before .before .before .before .pre .1 .2) in omega arith
+  check-call-sub-check-arguments c = let l = expr-left _ _ _ _ (c .before .before .before .before .before .before .before .before .before .before .before .before .before .before .pre .1 .2) in omega arith
 
   check-call-check-arguments-requires : check-call-asks check-call-lts.Need-check-arguments-requires
-  check-call-check-arguments-requires c κs = let p = c .before .before .before .before .before .before .before .before .before .before .before .before .before .before .before .pre .1 in let l = expr-left _ _ _ _ (p .2) in (omega arith, (p .0, c .before .before .before .before .check-callee .ensures .emitted .fits, name-below (c .before .before .before .before .before .before .before .before .before .before .u16-at .ensures .0) (call-name _ _ _ _ (p .2) (p .3)), c .before .before .before .before .check-callee .ensures .params, call-args _ _ _ _ (p .2) (p .3)))
+  check-call-check-arguments-requires c κs = let p = c .before .before .before .before .before .before .before .before .before .before .before .before .before .before .pre .1 in let l = expr-left _ _ _ _ (p .2) in (omega arith, (p .0, c .before .before .before .before .check-callee .ensures .emitted .fits, name-below (c .before .before .before .before .before .before .before .before .before .before .u16-at .ensures .0) (call-name _ _ _ _ (p .2) (p .3)), c .before .before .before .before .check-callee .ensures .params, call-args _ _ _ _ (p .2) (p .3)))
 
   check-call-returns : check-call-asks check-call-lts.Need-returns
-  check-call-returns c = let p = c .before .before .before .before .before .before .before .before .before .before .before .before .before .before .before .before .before .before .pre .1 in call-typing _ _ _ _ _ _ (p .2) (p .3) (c .before .before .before .before .before .before .before .before .before .before .before .before .before .u16-at .ensures .0) (c .before .before .before .before .before .before .before .before .before .before .before .before .skip-exprs .ensures) (c .before .before .before .before .before .before .before .before .before .before .before .span-at .ensures) (c .before .before .before .before .before .before .before .before .before .wide .ensures .0) (c .before .before .before .before .before .before .before .check-callee .ensures) (c .before .before .check-arguments .ensures)
+  check-call-returns c = let p = c .before .before .before .before .before .before .before .before .before .before .before .before .before .before .before .before .before .pre .1 in call-typing _ _ _ _ _ _ (p .2) (p .3) (c .before .before .before .before .before .before .before .before .before .before .before .before .before .u16-at .ensures .0) (c .before .before .before .before .before .before .before .before .before .before .before .before .skip-exprs .ensures) (c .before .before .before .before .before .before .before .before .before .before .before .span-at .ensures) (c .before .before .before .before .before .before .before .before .before .wide .ensures .0) (c .before .before .before .before .before .before .before .check-callee .ensures) (c .before .before .check-arguments .ensures)
 
   check-call-closed : {M : Type 1} → check-call-lts.Closed check-call-calls check-call-at check-call.Post M
   check-call-closed =
       check-call-lts.spec check-call-calls check-call-at check-call.Post
-      (λ c. let i = expr-in _ _ _ _ (c .before .before .before .before .pre .1 .2) in omega arith)  -- add-u16-at: let x = u16_at(tree, at + 1);
-      (λ c κs. let p = c .before .before .before .before .pre .1 in let i = call-name-in _ _ _ _ (p .2) (p .3) in omega arith)  -- u16-at-requires
-      (λ c. let p = c .before .before .before .before .before .pre .1 in let i = call-name-in _ _ _ _ (p .2) (p .3) in omega arith)  -- add-skip-exprs: let end = skip_exprs(tree, at + 3, left - 1);
-      (λ c. let l = expr-left _ _ _ _ (c .before .before .before .before .before .pre .1 .2) in omega arith)  -- sub-skip-exprs
-      (λ c κs. let p = c .before .before .before .before .before .pre .1 in call-args _ _ _ _ (p .2) (p .3))  -- skip-exprs-requires
-      (λ c κs. let p = c .before .before .before .before .before .before .pre .1 in call-inside _ _ _ _ (p .2) (p .3) _ (c .skip-exprs .ensures))  -- span-at-requires: let span = span_at(tree, end);
+      (λ c. let i = expr-in _ _ _ _ (c .before .before .before .pre .1 .2) in omega arith)  -- add-u16-at: let x = u16_at(tree, at + 1);
+      (λ c κs. let p = c .before .before .before .pre .1 in let i = call-name-in _ _ _ _ (p .2) (p .3) in omega arith)  -- u16-at-requires
+      (λ c. let p = c .before .before .before .before .pre .1 in let i = call-name-in _ _ _ _ (p .2) (p .3) in omega arith)  -- add-skip-exprs: let end = skip_exprs(tree, at + 3, left - 1);
+      (λ c. let l = expr-left _ _ _ _ (c .before .before .before .before .pre .1 .2) in omega arith)  -- sub-skip-exprs
+      (λ c κs. let p = c .before .before .before .before .pre .1 in call-args _ _ _ _ (p .2) (p .3))  -- skip-exprs-requires
+      (λ c κs. let p = c .before .before .before .before .before .pre .1 in call-inside _ _ _ _ (p .2) (p .3) _ (c .skip-exprs .ensures))  -- span-at-requires: let span = span_at(tree, end);
       check-call-add-next
-      (λ c. let p = c .before .before .before .before .before .before .before .pre .1 in let i = call-name-in _ _ _ _ (p .2) (p .3) in omega arith)  -- add-wide: let n = wide(tree[at + 3]);
-      (λ c. let p = c .before .before .before .before .before .before .before .before .pre .1 in counted-in _ _ _ _ _ (call-args _ _ _ _ (p .2) (p .3)))  -- shared-slice-read-wide
+      (λ c. let p = c .before .before .before .before .before .before .pre .1 in let i = call-name-in _ _ _ _ (p .2) (p .3) in omega arith)  -- add-wide: let n = wide(tree[at + 3]);
+      (λ c. let p = c .before .before .before .before .before .before .before .pre .1 in counted-in _ _ _ _ _ (call-args _ _ _ _ (p .2) (p .3)))  -- shared-slice-read-wide
       (λ c κs. search needs)  -- wide-requires
       check-call-check-callee-requires check-call-add-check-arguments check-call-sub-check-arguments
       check-call-check-arguments-requires
@@ -140,71 +140,71 @@ module _ (t : ℕ) where
   check-expr-asks Need = Need check-expr-calls check-expr-at check-expr.Post
 
   check-expr-check-ident-requires : check-expr-asks check-expr-lts.Need-check-ident-requires
-  check-expr-check-ident-requires c κs = let p = c .before .before .before .before .before .before .before .pre .1 in (p .0, p .1, ident-inside _ _ _ _ (p .2) (c .before .match .keys4), ident-name _ _ _ _ (p .2) (c .before .match .keys4))
+  check-expr-check-ident-requires c κs = let p = c .before .before .before .before .before .before .pre .1 in (p .0, p .1, ident-inside _ _ _ _ (p .2) (c .before .match .keys4), ident-name _ _ _ _ (p .2) (c .before .match .keys4))
 
   check-expr-check-index-requires : check-expr-asks check-expr-lts.Need-check-index-requires
-  check-expr-check-index-requires c κs = let p = c .before .before .before .before .before .before .before .pre .1 in (p .0, p .1, index-inside _ _ _ _ (p .2) (c .before .match .keys5), index-name _ _ _ _ (p .2) (c .before .match .keys5))
+  check-expr-check-index-requires c κs = let p = c .before .before .before .before .before .before .pre .1 in (p .0, p .1, index-inside _ _ _ _ (p .2) (c .before .match .keys5), index-name _ _ _ _ (p .2) (c .before .match .keys5))
 
   check-expr-check-expr-requires : check-expr-asks check-expr-lts.Need-check-expr-requires
-  check-expr-check-expr-requires c κs = let p = c .before .before .before .before .before .before .before .pre .1 in let l = expr-left _ _ _ _ (p .2) in (omega arith, (p .0, p .1, neg-inner _ _ _ _ (p .2) (c .before .match .keys8)))
+  check-expr-check-expr-requires c κs = let p = c .before .before .before .before .before .before .pre .1 in let l = expr-left _ _ _ _ (p .2) in (omega arith, (p .0, p .1, neg-inner _ _ _ _ (p .2) (c .before .match .keys8)))
 
   check-expr-negation-requires : check-expr-asks check-expr-lts.Need-negation-requires
-  check-expr-negation-requires c κs = let p = c .before .before .before .before .before .before .before .before .before .before .before .pre .1 in (p .0 .texts, c .before .before .before .check-expr .ensures .emitted .fits, neg-inside _ _ _ _ (p .2) (c .before .before .before .before .before .match .keys8) _ (c .before .before .before .check-expr .ensures .next))
+  check-expr-negation-requires c κs = let p = c .before .before .before .before .before .before .before .before .before .before .pre .1 in (p .0 .texts, c .before .before .before .check-expr .ensures .emitted .fits, neg-inside _ _ _ _ (p .2) (c .before .before .before .before .before .match .keys8) _ (c .before .before .before .check-expr .ensures .next))
 
   check-expr-check-expr-requires-2 : check-expr-asks check-expr-lts.Need-check-expr-requires-2
-  check-expr-check-expr-requires-2 c κs = let p = c .before .before .before .before .before .before .before .pre .1 in let l = expr-left _ _ _ _ (p .2) in (omega arith, (p .0, p .1, pair-lhs _ _ _ _ (p .2) (operation _ _ _ _ (p .2) (unlike 8 _ (c .before .match .rest)))))
+  check-expr-check-expr-requires-2 c κs = let p = c .before .before .before .before .before .before .pre .1 in let l = expr-left _ _ _ _ (p .2) in (omega arith, (p .0, p .1, pair-lhs _ _ _ _ (p .2) (operation _ _ _ _ (p .2) (unlike 8 _ (c .before .match .rest)))))
 
   check-expr-check-expr-requires-3 : check-expr-asks check-expr-lts.Need-check-expr-requires-3
-  check-expr-check-expr-requires-3 c κs = let p = c .before .before .before .before .before .before .before .before .before .before .before .before .pre .1 in let l = expr-left _ _ _ _ (p .2) in (omega arith, (p .0, c .before .before .before .before .check-expr2 .ensures .emitted .fits, pair-rhs _ _ _ _ (p .2) (operation _ _ _ _ (p .2) (unlike 8 _ (c .before .before .before .before .before .before .match .rest))) _ (c .before .before .before .before .check-expr2 .ensures .next)))
+  check-expr-check-expr-requires-3 c κs = let p = c .before .before .before .before .before .before .before .before .before .before .before .pre .1 in let l = expr-left _ _ _ _ (p .2) in (omega arith, (p .0, c .before .before .before .before .check-expr2 .ensures .emitted .fits, pair-rhs _ _ _ _ (p .2) (operation _ _ _ _ (p .2) (unlike 8 _ (c .before .before .before .before .before .before .match .rest))) _ (c .before .before .before .before .check-expr2 .ensures .next)))
 
   check-expr-operation-requires : check-expr-asks check-expr-lts.Need-operation-requires
-  check-expr-operation-requires c κs = let p = c .before .before .before .before .before .before .before .before .before .before .before .before .before .before .before .before .before .pre .1 in (p .0 .texts, c .before .before .before .before .check-expr3 .ensures .emitted .fits, pair-inside _ _ _ _ (p .2) (operation _ _ _ _ (p .2) (unlike 8 _ (c .before .before .before .before .before .before .before .before .before .before .before .match .rest))) _ (c .before .before .before .before .before .before .before .before .before .check-expr2 .ensures .next) _ (c .before .before .before .before .check-expr3 .ensures .next))
+  check-expr-operation-requires c κs = let p = c .before .before .before .before .before .before .before .before .before .before .before .before .before .before .before .before .pre .1 in (p .0 .texts, c .before .before .before .before .check-expr3 .ensures .emitted .fits, pair-inside _ _ _ _ (p .2) (operation _ _ _ _ (p .2) (unlike 8 _ (c .before .before .before .before .before .before .before .before .before .before .before .match .rest))) _ (c .before .before .before .before .before .before .before .before .before .check-expr2 .ensures .next) _ (c .before .before .before .before .check-expr3 .ensures .next))
 
   check-expr-returns-2 : check-expr-asks check-expr-lts.Need-returns-2
-  check-expr-returns-2 c = let p = c .before .before .before .before .before .before .before .pre .1 in float-typing _ _ _ _ (p .2) (p .1) (c .before .match .keys2) (c .has-type2 .ensures)
+  check-expr-returns-2 c = let p = c .before .before .before .before .before .before .pre .1 in float-typing _ _ _ _ (p .2) (p .1) (c .before .match .keys2) (c .has-type2 .ensures)
 
   check-expr-returns-4 : check-expr-asks check-expr-lts.Need-returns-4
-  check-expr-returns-4 c = ident-typing _ _ _ _ (c .before .before .before .before .before .before .before .before .before .before .pre .1 .2) (c .before .before .before .before .match .keys4) (c .before .before .check-ident .ensures)
+  check-expr-returns-4 c = ident-typing _ _ _ _ (c .before .before .before .before .before .before .before .before .before .pre .1 .2) (c .before .before .before .before .match .keys4) (c .before .before .check-ident .ensures)
 
   check-expr-returns-5 : check-expr-asks check-expr-lts.Need-returns-5
-  check-expr-returns-5 c = index-typing _ _ _ _ (c .before .before .before .before .before .before .before .before .before .before .pre .1 .2) (c .before .before .before .before .match .keys5) (c .before .before .check-index .ensures)
+  check-expr-returns-5 c = index-typing _ _ _ _ (c .before .before .before .before .before .before .before .before .before .pre .1 .2) (c .before .before .before .before .match .keys5) (c .before .before .check-index .ensures)
 
   check-expr-returns-7 : check-expr-asks check-expr-lts.Need-returns-7
-  check-expr-returns-7 c = let p = c .before .before .before .before .before .before .before .pre .1 in const-typing _ _ _ _ (p .2) (p .1) (c .before .match .keys7) (c .has-type4 .ensures)
+  check-expr-returns-7 c = let p = c .before .before .before .before .before .before .pre .1 in const-typing _ _ _ _ (p .2) (p .1) (c .before .match .keys7) (c .has-type4 .ensures)
 
   check-expr-returns-8 : check-expr-asks check-expr-lts.Need-returns-8
-  check-expr-returns-8 c = neg-typing _ _ _ _ (c .before .before .before .before .before .before .before .before .before .before .before .before .before .before .pre .1 .2) (c .before .before .before .before .before .before .before .before .match .keys8) (c .before .before .before .before .before .before .check-expr .ensures) (c .before .before .negation .ensures)
+  check-expr-returns-8 c = neg-typing _ _ _ _ (c .before .before .before .before .before .before .before .before .before .before .before .before .before .pre .1 .2) (c .before .before .before .before .before .before .before .before .match .keys8) (c .before .before .before .before .before .before .check-expr .ensures) (c .before .before .negation .ensures)
 
   check-expr-returns-9 : check-expr-asks check-expr-lts.Need-returns-9
-  check-expr-returns-9 c = let h = c .before .before .before .before .before .before .before .before .before .before .before .before .before .before .before .before .before .before .before .before .pre .1 .2 in pair-typing _ _ _ _ h (operation _ _ _ _ h (unlike 8 _ (c .before .before .before .before .before .before .before .before .before .before .before .before .before .before .match .rest))) (c .before .before .before .before .before .before .before .before .before .before .before .before .check-expr2 .ensures) (c .before .before .before .before .before .before .before .check-expr3 .ensures) (c .before .before .operation .ensures)
+  check-expr-returns-9 c = let h = c .before .before .before .before .before .before .before .before .before .before .before .before .before .before .before .before .before .before .before .pre .1 .2 in pair-typing _ _ _ _ h (operation _ _ _ _ h (unlike 8 _ (c .before .before .before .before .before .before .before .before .before .before .before .before .before .before .match .rest))) (c .before .before .before .before .before .before .before .before .before .before .before .before .check-expr2 .ensures) (c .before .before .before .before .before .before .before .check-expr3 .ensures) (c .before .before .operation .ensures)
 
   check-expr-closed : {M : Type 1} → check-expr-lts.Closed check-expr-calls check-expr-at check-expr.Post M
   check-expr-closed =
       check-expr-lts.spec check-expr-calls check-expr-at check-expr.Post
-      (λ c. expr-in _ _ _ _ (c .before .before .before .before .before .pre .1 .2))  -- shared-slice-read-match: match tree[at] {
-      (λ c. let i = intLit-inside _ _ _ _ (c .before .before .before .before .before .before .pre .1 .2) (c .match .keys1) in omega arith)  -- add-has-type: 0 => cases::has_type(ClassicalType::Int, at + 17, sink),
+      (λ c. expr-in _ _ _ _ (c .before .before .before .before .pre .1 .2))  -- shared-slice-read-match: match tree[at] {
+      (λ c. let i = intLit-inside _ _ _ _ (c .before .before .before .before .before .pre .1 .2) (c .match .keys1) in omega arith)  -- add-has-type: 0 => cases::has_type(ClassicalType::Int, at + 17, sink),
       (λ c κs. search needs)  -- has-type-requires
-      (λ c. let i = floatLit-inside _ _ _ _ (c .before .before .before .before .before .before .pre .1 .2) (c .match .keys2) in omega arith)  -- add-has-type-2: 1 => cases::has_type(ClassicalType::Float, at + 11, sink),
+      (λ c. let i = floatLit-inside _ _ _ _ (c .before .before .before .before .before .pre .1 .2) (c .match .keys2) in omega arith)  -- add-has-type-2: 1 => cases::has_type(ClassicalType::Float, at + 11, sink),
       (λ c κs. search needs)  -- has-type-requires-2
-      (λ c. let i = boolLit-inside _ _ _ _ (c .before .before .before .before .before .before .pre .1 .2) (c .match .keys3) in omega arith)  -- add-has-type-3: 2 => cases::has_type(ClassicalType::Bool, at + 10, sink),
+      (λ c. let i = boolLit-inside _ _ _ _ (c .before .before .before .before .before .pre .1 .2) (c .match .keys3) in omega arith)  -- add-has-type-3: 2 => cases::has_type(ClassicalType::Bool, at + 10, sink),
       (λ c κs. search needs)  -- has-type-requires-3
       check-expr-check-ident-requires check-expr-check-index-requires
-      (λ c κs. let p = c .before .before .before .before .before .before .before .pre .1 in (omega arith, (p .0, p .1, p .2, c .before .match .keys6)))  -- check-call-requires: 5 => check_call(tree, index, scratch, out, depth, at, left,  ..
-      (λ c. let i = const-inside _ _ _ _ (c .before .before .before .before .before .before .pre .1 .2) (c .match .keys7) in omega arith)  -- add-has-type-4: 6 => cases::has_type(ClassicalType::Float, at + 10, sink),
+      (λ c κs. let p = c .before .before .before .before .before .before .pre .1 in (omega arith, (p .0, p .1, p .2, c .before .match .keys6)))  -- check-call-requires: 5 => check_call(tree, index, scratch, out, depth, at, left,  ..
+      (λ c. let i = const-inside _ _ _ _ (c .before .before .before .before .before .pre .1 .2) (c .match .keys7) in omega arith)  -- add-has-type-4: 6 => cases::has_type(ClassicalType::Float, at + 10, sink),
       (λ c κs. search needs)  -- has-type-requires-4
-      (λ c. let i = expr-in _ _ _ _ (c .before .before .before .before .before .before .before .pre .1 .2) in omega arith)  -- add-check-expr: let t = check_expr(tree, index, scratch, out, depth, at + 1, ..
-      (λ c. let l = expr-left _ _ _ _ (c .before .before .before .before .before .before .before .pre .1 .2) in omega arith)  -- sub-check-expr
+      (λ c. let i = expr-in _ _ _ _ (c .before .before .before .before .before .before .pre .1 .2) in omega arith)  -- add-check-expr: let t = check_expr(tree, index, scratch, out, depth, at + 1, ..
+      (λ c. let l = expr-left _ _ _ _ (c .before .before .before .before .before .before .pre .1 .2) in omega arith)  -- sub-check-expr
       check-expr-check-expr-requires check-expr-negation-requires
-      (λ c. let i = expr-in _ _ _ _ (c .before .before .before .before .before .before .before .pre .1 .2) in omega arith)  -- add-check-expr-2: let l = check_expr(tree, index, scratch, out, depth, at + 2, ..
-      (λ c. let l = expr-left _ _ _ _ (c .before .before .before .before .before .before .before .pre .1 .2) in omega arith)  -- sub-check-expr-2
+      (λ c. let i = expr-in _ _ _ _ (c .before .before .before .before .before .before .pre .1 .2) in omega arith)  -- add-check-expr-2: let l = check_expr(tree, index, scratch, out, depth, at + 2, ..
+      (λ c. let l = expr-left _ _ _ _ (c .before .before .before .before .before .before .pre .1 .2) in omega arith)  -- sub-check-expr-2
       check-expr-check-expr-requires-2
-      (λ c. let l = expr-left _ _ _ _ (c .before .before .before .before .before .before .before .before .before .before .before .before .pre .1 .2) in omega arith)  -- sub-check-expr-3: let r = check_expr(tree, index, scratch, out, depth, l.next, ..
+      (λ c. let l = expr-left _ _ _ _ (c .before .before .before .before .before .before .before .before .before .before .before .pre .1 .2) in omega arith)  -- sub-check-expr-3: let r = check_expr(tree, index, scratch, out, depth, l.next, ..
       check-expr-check-expr-requires-3
-      (λ c. expr-in _ _ _ _ (c .before .before .before .before .before .before .before .before .before .before .before .before .before .before .before .before .before .pre .1 .2))  -- shared-slice-read-operation: cases::operation(tree, index, out, tree[at], lhs, r)
+      (λ c. expr-in _ _ _ _ (c .before .before .before .before .before .before .before .before .before .before .before .before .before .before .before .before .pre .1 .2))  -- shared-slice-read-operation: cases::operation(tree, index, out, tree[at], lhs, r)
       check-expr-operation-requires
-      (λ c. let p = c .before .before .before .before .before .before .before .pre .1 in int-typing _ _ _ _ (p .2) (p .1) (c .before .match .keys1) (c .has-type .ensures))  -- returns: pub fn check_expr(
+      (λ c. let p = c .before .before .before .before .before .before .pre .1 in int-typing _ _ _ _ (p .2) (p .1) (c .before .match .keys1) (c .has-type .ensures))  -- returns: pub fn check_expr(
       check-expr-returns-2
-      (λ c. let p = c .before .before .before .before .before .before .before .pre .1 in bool-typing _ _ _ _ (p .2) (p .1) (c .before .match .keys3) (c .has-type3 .ensures))  -- returns-3
+      (λ c. let p = c .before .before .before .before .before .before .pre .1 in bool-typing _ _ _ _ (p .2) (p .1) (c .before .match .keys3) (c .has-type3 .ensures))  -- returns-3
       (λ c. search needs)  -- same-length
       check-expr-returns-4
       (λ c. search needs)  -- same-length-2

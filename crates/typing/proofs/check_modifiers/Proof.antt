@@ -20,7 +20,7 @@ abbrev μ-loop : tie.MeasureT-loop
 μ-loop tree index scratch out₀ depth at n₀ next₀ s₀ out n next s = n
 
 check-modifier-requires : tie.Need-check-modifier-requires Inv-loop μ-loop
-check-modifier-requires c κs = (c .before .before .before .before .before .before .before .before .before .pre .0, c .before .before .loop .inv .0 .owes .fits, saying-first _ (c .before .before .loop .inv .0) (c .before .loop-test .taken))
+check-modifier-requires c κs = (c .before .before .before .before .before .before .before .before .pre .0, c .before .before .loop .inv .0 .owes .fits, saying-first _ (c .before .before .loop .inv .0) (c .before .loop-test .taken))
 
 loop-again : tie.Need-loop-again Inv-loop μ-loop
 loop-again c = (modifiers-more _ _ _ (c .before .before .before .before .before .before .loop .inv .0) (c .before .before .before .before .before .loop-test .taken) (c .before .before .before .check-modifier .ensures), search needs)
@@ -28,10 +28,10 @@ loop-again c = (modifiers-more _ _ _ (c .before .before .before .before .before 
 pub check-modifiers-spec : {M : Type 1} → statement M
 check-modifiers-spec =
     tie.close (tie.spec Inv-loop μ-loop
-    (λ c. counted-in _ _ _ _ _ (c .before .before .before .before .before .pre .2))  -- shared-slice-read-wide
+    (λ c. counted-in _ _ _ _ _ (c .before .before .before .before .pre .2))  -- shared-slice-read-wide
     (λ c κs. search needs)  -- wide-requires
-    (λ c. let i = counted-in _ _ _ _ _ (c .before .before .before .before .before .before .pre .2) in omega arith)  -- add-next
-    (λ c. let p = c .before .before .before .before .before .before .pre in (saying-start _ (p .2) (c .wide .ensures .0) (p .1), refl))  -- loop-holds
+    (λ c. let i = counted-in _ _ _ _ _ (c .before .before .before .before .before .pre .2) in omega arith)  -- add-next
+    (λ c. let p = c .before .before .before .before .before .pre in (saying-start _ (p .2) (c .wide .ensures .0) (p .1), refl))  -- loop-holds
     check-modifier-requires
     (λ c. search needs)  -- sub-n
     (λ c. search needs)  -- loop-less

@@ -21,7 +21,7 @@ abbrev μ-loop : tie.MeasureT-loop
 μ-loop tree index scratch out₀ depth at n₀ next₀ s₀ out n next s = n
 
 require-numeric-requires : tie.Need-require-numeric-requires Inv-loop μ-loop
-require-numeric-requires c κs = (c .before .before .before .before .before .before .before .before .before .pre .0, c .before .before .loop .inv .0 .owes .fits, saying-first _ (c .before .before .loop .inv .0) (c .before .loop-test .taken), tt)
+require-numeric-requires c κs = (c .before .before .before .before .before .before .before .before .pre .0, c .before .before .loop .inv .0 .owes .fits, saying-first _ (c .before .before .loop .inv .0) (c .before .loop-test .taken), tt)
 
 loop-again : tie.Need-loop-again Inv-loop μ-loop
 loop-again c = (params-more _ _ _ (c .before .before .before .before .before .before .loop .inv .0) (c .before .before .before .before .before .loop-test .taken) (c .before .before .before .require-numeric .ensures), search needs)
@@ -29,10 +29,10 @@ loop-again c = (params-more _ _ _ (c .before .before .before .before .before .be
 pub check-params-spec : {M : Type 1} → statement M
 check-params-spec =
     tie.close (tie.spec Inv-loop μ-loop
-    (λ c. counted-in _ _ _ _ _ (c .before .before .before .before .before .pre .2))  -- shared-slice-read-wide
+    (λ c. counted-in _ _ _ _ _ (c .before .before .before .before .pre .2))  -- shared-slice-read-wide
     (λ c κs. search needs)  -- wide-requires
-    (λ c. let i = counted-in _ _ _ _ _ (c .before .before .before .before .before .before .pre .2) in omega arith)  -- add-next
-    (λ c. let p = c .before .before .before .before .before .before .pre in (saying-start _ (p .2) (c .wide .ensures .0) (p .1), refl))  -- loop-holds
+    (λ c. let i = counted-in _ _ _ _ _ (c .before .before .before .before .before .pre .2) in omega arith)  -- add-next
+    (λ c. let p = c .before .before .before .before .before .pre in (saying-start _ (p .2) (c .wide .ensures .0) (p .1), refl))  -- loop-holds
     require-numeric-requires
     (λ c. search needs)  -- sub-n
     (λ c. search needs)  -- loop-less

@@ -6,7 +6,7 @@ use Rattle.typing.proofs.require.Statement.{statement}
 use Rattle.typing.proofs.require.Tie as tie
 
 check-wanted-requires : tie.Need-check-wanted-requires
-check-wanted-requires c κs = let p = c .before .before .before .before .before .before .before .before .before .pre in let e = c .before .before .before .check-expr .ensures in (p .0 .texts, e .emitted .fits, p .3, span-room _ 32 _ _ (p .2) _ (e .next), span-in _ 32 _ _ (p .2) _ (e .next))
+check-wanted-requires c κs = let p = c .before .before .before .before .before .before .before .before .pre in let e = c .before .before .before .check-expr .ensures in (p .0 .texts, e .emitted .fits, p .3, span-room _ 32 _ _ (p .2) _ (e .next), span-in _ 32 _ _ (p .2) _ (e .next))
 
 pub require-spec : {M : Type 1} → statement M
 require-spec =
@@ -14,4 +14,4 @@ require-spec =
     (λ c κs. search needs)  -- check-expr-requires
     check-wanted-requires
     (λ c. search needs)  -- same-length
-    (λ c. require-said _ _ _ _ _ (c .before .before .before .before .before .before .before .before .before .before .before .before .pre .2) (c .before .before .before .before .before .before .check-expr .ensures) _ (c .before .before .check-wanted .ensures)))  -- returns
+    (λ c. require-said _ _ _ _ _ (c .before .before .before .before .before .before .before .before .before .before .before .pre .2) (c .before .before .before .before .before .before .check-expr .ensures) _ (c .before .before .check-wanted .ensures)))  -- returns

@@ -12,6 +12,6 @@ returns c = c .before .before .require .ensures
 pub require-numeric-spec : {M : Type 1} → statement M
 require-numeric-spec =
     tie.close (tie.spec
-    (λ c κs. let p = c .before .before .before .before .before .pre in (p .0, p .1, p .2, λ a. p .3))  -- require-requires
+    (λ c κs. let p = c .before .before .before .before .pre in (p .0, p .1, p .2, λ a. p .3))  -- require-requires
     (λ c. search needs)  -- same-length
     returns)

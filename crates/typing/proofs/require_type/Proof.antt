@@ -12,6 +12,6 @@ returns c = c .before .before .require .ensures
 pub require-type-spec : {M : Type 1} → statement M
 require-type-spec =
     tie.close (tie.spec
-    (λ c κs. let p = c .before .before .before .before .before .pre in (p .0, p .1, p .2, λ a. tt))  -- require-requires
+    (λ c κs. let p = c .before .before .before .before .pre in (p .0, p .1, p .2, λ a. tt))  -- require-requires
     (λ c. search needs)  -- same-length
     returns)

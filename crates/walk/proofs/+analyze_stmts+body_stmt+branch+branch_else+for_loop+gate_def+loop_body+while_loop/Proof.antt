@@ -114,29 +114,29 @@ module _ (t : ℕ) where
 
   body-stmt-gate-def-requires : body-stmt-lts.Need-gate-def-requires body-stmt-calls body-stmt-at body-stmt.Post
   body-stmt-gate-def-requires c κs =
-      let p = c .before .before .before .before .before .before .before .before .pre .1 in
+      let p = c .before .before .before .before .before .before .before .pre .1 in
       (omega arith, ((p .0 .0, p .0 .1, p .0 .2, p .0 .3, c .before .before .match .keys1), p .1))
 
   body-stmt-branch-requires : body-stmt-lts.Need-branch-requires body-stmt-calls body-stmt-at body-stmt.Post
   body-stmt-branch-requires c κs =
-      let p = c .before .before .before .before .before .before .before .before .pre .1 in
+      let p = c .before .before .before .before .before .before .before .pre .1 in
       (omega arith, ((p .0 .0, p .0 .1, p .0 .2, p .0 .3, c .before .before .match .keys2), p .1))
 
   body-stmt-for-loop-requires : body-stmt-lts.Need-for-loop-requires body-stmt-calls body-stmt-at body-stmt.Post
   body-stmt-for-loop-requires c κs =
-      let p = c .before .before .before .before .before .before .before .before .pre .1 in
+      let p = c .before .before .before .before .before .before .before .pre .1 in
       (omega arith, ((p .0 .0, p .0 .1, p .0 .2, p .0 .3, c .before .before .match .keys3), p .1))
 
   body-stmt-while-loop-requires : body-stmt-lts.Need-while-loop-requires body-stmt-calls body-stmt-at body-stmt.Post
   body-stmt-while-loop-requires c κs =
-      let p = c .before .before .before .before .before .before .before .before .pre .1 in
+      let p = c .before .before .before .before .before .before .before .pre .1 in
       let r = c .before .before .match .rest in
       (omega arith, ((p .0 .0, p .0 .1, p .0 .2, p .0 .3, last-from 12 2 _ ((tt, r .0 .1), r .1) (late _ (p .0 .4) (r .0 .0 .1)) (stmt-below _ _ _ _ (p .0 .2))), p .1))
 
   body-stmt-closed : {M : Type 1} → body-stmt-lts.Closed body-stmt-calls body-stmt-at body-stmt.Post M
   body-stmt-closed =
       body-stmt-lts.spec body-stmt-calls body-stmt-at body-stmt.Post
-      (λ c. stmt-in _ _ _ _ (c .before .before .before .before .before .pre .1 .0 .2))  -- shared-slice-read-match
+      (λ c. stmt-in _ _ _ _ (c .before .before .before .before .pre .1 .0 .2))  -- shared-slice-read-match
       body-stmt-gate-def-requires body-stmt-branch-requires body-stmt-for-loop-requires body-stmt-while-loop-requires
       (λ c. search needs) (λ c. search needs) (λ c. search needs)  -- same-length, same-length, returns
       (λ c. search needs) (λ c. search needs) (λ c. search needs)  -- same-length, same-length, returns
@@ -147,21 +147,21 @@ module _ (t : ℕ) where
   analyze-stmts-calls = (accepted.numbers.u16_at.Reads.Asked, accepted.numbers.u16_at.Reads.Learnt, is_plain.Asked, is_plain.Learnt, plain_stmt.Asked, plain_stmt.Learnt, λ κs a. (μ-body-stmt κs a < t) × body-stmt.Pre κs a, body-stmt.Post)
 
   analyze-stmts-loop-holds : analyze-stmts-lts.Need-loop-holds analyze-stmts-calls analyze-stmts-at analyze-stmts.Post analyze-stmts-Inv-loop analyze-stmts-μ-loop
-  analyze-stmts-loop-holds c = let p = c .before .before .before .before .before .pre .1 in going-start _ _ _ _ _ _ _ _ _ (p .0 .2) (c .u16-at .ensures .0) refl (ready-as (p .0 .1) refl refl) (p .1)
+  analyze-stmts-loop-holds c = let p = c .before .before .before .before .pre .1 in going-start _ _ _ _ _ _ _ _ _ (p .0 .2) (c .u16-at .ensures .0) refl (ready-as (p .0 .1) refl refl) (p .1)
 
   analyze-stmts-shared-slice-read-is-plain : analyze-stmts-lts.Need-shared-slice-read-is-plain analyze-stmts-calls analyze-stmts-at analyze-stmts.Post analyze-stmts-Inv-loop analyze-stmts-μ-loop
   analyze-stmts-shared-slice-read-is-plain c = stmt-in _ _ _ _ (going-stmt _ _ _ _ _ _ _ _ _ _ _ _ (c .before .before .loop .inv) (c .before .loop-test .taken))
 
   analyze-stmts-plain-stmt-requires : analyze-stmts-lts.Need-plain-stmt-requires analyze-stmts-calls analyze-stmts-at analyze-stmts.Post analyze-stmts-Inv-loop analyze-stmts-μ-loop
   analyze-stmts-plain-stmt-requires c κs =
-      let p = c .before .before .before .before .before .before .before .before .before .before .before .before .before .before .pre .1 .0 in
+      let p = c .before .before .before .before .before .before .before .before .before .before .before .before .before .pre .1 .0 in
       let i = c .before .before .before .before .before .before .before .before .loop .inv in
       let l = c .before .before .before .before .before .before .before .loop-test .taken in
       ((p .0, i .ready, going-stmt _ _ _ _ _ _ _ _ _ _ _ _ i l, p .3, sym (c .before .before .before .before .before .is-plain .ensures) ∙ c .before .before .before .before .if1 .taken), going-keyed _ _ _ _ _ _ _ _ _ _ _ _ i l)
 
   analyze-stmts-body-stmt-requires : analyze-stmts-lts.Need-body-stmt-requires analyze-stmts-calls analyze-stmts-at analyze-stmts.Post analyze-stmts-Inv-loop analyze-stmts-μ-loop
   analyze-stmts-body-stmt-requires c κs =
-      let p = c .before .before .before .before .before .before .before .before .before .before .before .before .pre .1 .0 in
+      let p = c .before .before .before .before .before .before .before .before .before .before .before .pre .1 .0 in
       let i = c .before .before .before .before .before .before .loop .inv in
       let l = c .before .before .before .before .before .loop-test .taken in
       (omega arith, ((p .0, i .ready, going-stmt _ _ _ _ _ _ _ _ _ _ _ _ i l, p .3, sym (c .before .before .before .is-plain .ensures) ∙ c .before .before .if1 .left), going-keyed _ _ _ _ _ _ _ _ _ _ _ _ i l))
@@ -181,8 +181,8 @@ module _ (t : ℕ) where
   analyze-stmts-closed : {M : Type 1} → analyze-stmts-lts.Closed analyze-stmts-calls analyze-stmts-at analyze-stmts.Post M
   analyze-stmts-closed =
       analyze-stmts-lts.spec analyze-stmts-calls analyze-stmts-at analyze-stmts.Post analyze-stmts-Inv-loop analyze-stmts-μ-loop
-      (λ c κs. body-in _ _ _ (c .before .before .before .before .pre .1 .0 .2))  -- u16-at-requires
-      (λ c. let p = c .before .before .before .before .before .pre .1 .0 in omega (arith, body-in _ _ _ (p .2), p .0 .small))  -- add-s
+      (λ c κs. body-in _ _ _ (c .before .before .before .pre .1 .0 .2))  -- u16-at-requires
+      (λ c. let p = c .before .before .before .before .pre .1 .0 in omega (arith, body-in _ _ _ (p .2), p .0 .small))  -- add-s
       analyze-stmts-loop-holds analyze-stmts-shared-slice-read-is-plain
       (λ c κs. search needs)  -- is-plain-requires
       analyze-stmts-plain-stmt-requires
@@ -198,11 +198,11 @@ module _ (t : ℕ) where
   gate-def-calls = (bodies.open_gate.Reads.Asked, bodies.open_gate.Reads.Learnt, moved.Asked, moved.Learnt, analyze-stmts-below, analyze-stmts.Post)
 
   gate-def-open-gate-requires : gate-def-lts.Need-open-gate-requires gate-def-calls gate-def-at gate-def.Post
-  gate-def-open-gate-requires c κs = let p = c .before .before .before .before .before .before .pre .1 .0 in (p .0 .texts, p .0 .small, p .1 .room, p .1 .fits, p .2, p .3, p .4)
+  gate-def-open-gate-requires c κs = let p = c .before .before .before .before .before .pre .1 .0 in (p .0 .texts, p .0 .small, p .1 .room, p .1 .fits, p .2, p .3, p .4)
 
   gate-def-analyze-stmts-requires : gate-def-lts.Need-analyze-stmts-requires gate-def-calls gate-def-at gate-def.Post
   gate-def-analyze-stmts-requires c κs =
-      let s = c .before .before .before .before .before .before .before .before .before .before .before .before .before .before in
+      let s = c .before .before .before .before .before .before .before .before .before .before .before .before .before in
       let p = s .pre .1 in
       let g = opened-as (c .before .before .before .before .before .before .before .open-gate .ensures (s .args .st .marks)) _ (c .before .before .moved .ensures) in
       let h = gate-holds _ _ _ (p .0 .2) (p .0 .4) in
@@ -210,14 +210,14 @@ module _ (t : ℕ) where
 
   gate-def-add-r : gate-def-lts.Need-add-r gate-def-calls gate-def-at gate-def.Post
   gate-def-add-r c =
-      let s = c .before .before .before .before .before .before .before .before .before .before .before .before .before .before .before .before .before .before .before .before in
+      let s = c .before .before .before .before .before .before .before .before .before .before .before .before .before .before .before .before .before .before .before in
       let p = s .pre .1 .0 in
       let g = opened-as (c .before .before .before .before .before .before .before .before .before .before .before .before .before .open-gate .ensures (s .args .st .marks)) _ (c .before .before .before .before .before .before .before .before .moved .ensures) in
       omega (arith, body-room _ _ _ (gate-is _ _ _ (p .2) (p .4)) (p .2) _ (g .at), c .before .before .before .before .before .analyze-stmts .ensures .at, p .0 .small)
 
   gate-def-returns : gate-def-lts.Need-returns gate-def-calls gate-def-at gate-def.Post
   gate-def-returns c =
-      let s = c .before .before .before .before .before .before .before .before .before .before .before .before .before .before .before .before .before .before .before .before in
+      let s = c .before .before .before .before .before .before .before .before .before .before .before .before .before .before .before .before .before .before .before in
       let p = s .pre .1 .0 in
       gate-walked _ _ _ _ _ (p .2) (p .3) (p .4) (opened-as (c .before .before .before .before .before .before .before .before .before .before .before .before .before .open-gate .ensures (s .args .st .marks)) _ (c .before .before .before .before .before .before .before .before .moved .ensures)) (c .before .before .before .before .before .analyze-stmts .ensures) _ refl refl refl
 
@@ -226,7 +226,7 @@ module _ (t : ℕ) where
       gate-def-lts.spec gate-def-calls gate-def-at gate-def.Post
       gate-def-open-gate-requires
       (λ c κs. search needs)  -- moved-requires
-      (λ c. omega (arith, stmt-left _ _ _ _ (c .before .before .before .before .before .before .before .before .before .before .before .before .before .before .pre .1 .0 .2)))  -- sub-analyze-stmts
+      (λ c. omega (arith, stmt-left _ _ _ _ (c .before .before .before .before .before .before .before .before .before .before .before .before .before .pre .1 .0 .2)))  -- sub-analyze-stmts
       gate-def-analyze-stmts-requires gate-def-add-r
       (λ c. search needs) (λ c. search needs)  -- same-length, same-length-2
       gate-def-returns
@@ -236,7 +236,7 @@ module _ (t : ℕ) where
 
   loop-body-returns : loop-body-lts.Need-returns loop-body-calls loop-body-at loop-body.Post
   loop-body-returns c =
-      let p = c .before .before .before .before .before .before .before .before .before .before .before .before .before .before .before .pre .1 .0 in
+      let p = c .before .before .before .before .before .before .before .before .before .before .before .before .before .before .pre .1 .0 in
       let v = c .before .before .before .before .before .before .before .before .analyze-stmts .ensures in
       let u = c .unite .ensures in
       loop-united _ _ _ _ _ v _ refl refl (u .0 _ (p .1 .placed) (v .placed)) (u .1 _ _)
@@ -244,9 +244,9 @@ module _ (t : ℕ) where
   loop-body-closed : {M : Type 1} → loop-body-lts.Closed loop-body-calls loop-body-at loop-body.Post M
   loop-body-closed =
       loop-body-lts.spec loop-body-calls loop-body-at loop-body.Post
-      (λ c κs. let p = c .before .before .before .before .before .before .pre .1 in (omega arith, (p .0, p .1 .0)))  -- analyze-stmts-requires
-      (λ c κs. (c .before .before .before .before .before .before .before .before .before .before .before .before .before .before .pre .1 .0 .1 .placed .whole, c .before .before .before .before .before .before .before .analyze-stmts .ensures .placed .whole))  -- unite-requires
-      (λ c. let p = c .before .before .before .before .before .before .before .before .before .before .before .before .before .before .before .pre .1 in omega (arith, c .before .before .before .before .before .before .before .before .analyze-stmts .ensures .at, p .1 .1, p .0 .0 .small))  -- add-r
+      (λ c κs. let p = c .before .before .before .before .before .pre .1 in (omega arith, (p .0, p .1 .0)))  -- analyze-stmts-requires
+      (λ c κs. (c .before .before .before .before .before .before .before .before .before .before .before .before .before .pre .1 .0 .1 .placed .whole, c .before .before .before .before .before .before .before .analyze-stmts .ensures .placed .whole))  -- unite-requires
+      (λ c. let p = c .before .before .before .before .before .before .before .before .before .before .before .before .before .before .pre .1 in omega (arith, c .before .before .before .before .before .before .before .before .analyze-stmts .ensures .at, p .1 .1, p .0 .0 .small))  -- add-r
       (λ c. search needs) (λ c. search needs)  -- same-length, same-length-2
       loop-body-returns
 
@@ -254,11 +254,11 @@ module _ (t : ℕ) where
   for-loop-calls = (bodies.open_for.Reads.Asked, bodies.open_for.Reads.Learnt, moved.Asked, moved.Learnt, loop-body-below, loop-body.Post)
 
   for-loop-open-for-requires : for-loop-lts.Need-open-for-requires for-loop-calls for-loop-at for-loop.Post
-  for-loop-open-for-requires c κs = let p = c .before .before .before .before .before .before .pre .1 .0 in (p .0 .texts, p .0 .small, p .1 .room, p .1 .fits, p .2, p .3, p .4)
+  for-loop-open-for-requires c κs = let p = c .before .before .before .before .before .pre .1 .0 in (p .0 .texts, p .0 .small, p .1 .room, p .1 .fits, p .2, p .3, p .4)
 
   for-loop-loop-body-requires : for-loop-lts.Need-loop-body-requires for-loop-calls for-loop-at for-loop.Post
   for-loop-loop-body-requires c κs =
-      let s = c .before .before .before .before .before .before .before .before .before .before .before .before .before .before in
+      let s = c .before .before .before .before .before .before .before .before .before .before .before .before .before in
       let p = s .pre .1 in
       let g = opened-as (c .before .before .before .before .before .before .before .open-for .ensures (s .args .st .marks)) _ (c .before .before .moved .ensures) in
       let h = for-holds _ _ _ (p .0 .2) (p .0 .4) in
@@ -270,20 +270,20 @@ module _ (t : ℕ) where
       for-loop-lts.spec for-loop-calls for-loop-at for-loop.Post
       for-loop-open-for-requires
       (λ c κs. search needs)  -- moved-requires
-      (λ c. omega (arith, stmt-left _ _ _ _ (c .before .before .before .before .before .before .before .before .before .before .before .before .before .before .pre .1 .0 .2)))  -- sub-loop-body
+      (λ c. omega (arith, stmt-left _ _ _ _ (c .before .before .before .before .before .before .before .before .before .before .before .before .before .pre .1 .0 .2)))  -- sub-loop-body
       for-loop-loop-body-requires
       (λ c. search needs) (λ c. search needs)  -- same-length, same-length-2
-      (λ c. let s = c .before .before .before .before .before .before .before .before .before .before .before .before .before .before .before .before .before .before .before in let p = s .pre .1 .0 in for-walked _ _ _ _ _ (p .2) (p .3) (p .4) (opened-as (c .before .before .before .before .before .before .before .before .before .before .before .before .open-for .ensures (s .args .st .marks)) _ (c .before .before .before .before .before .before .before .moved .ensures)) (c .before .before .before .before .loop-body .ensures))  -- returns
+      (λ c. let s = c .before .before .before .before .before .before .before .before .before .before .before .before .before .before .before .before .before .before in let p = s .pre .1 .0 in for-walked _ _ _ _ _ (p .2) (p .3) (p .4) (opened-as (c .before .before .before .before .before .before .before .before .before .before .before .before .open-for .ensures (s .args .st .marks)) _ (c .before .before .before .before .before .before .before .moved .ensures)) (c .before .before .before .before .loop-body .ensures))  -- returns
 
   abbrev while-loop-calls : while-loop-lts.Claims
   while-loop-calls = (bodies.open_while.Reads.Asked, bodies.open_while.Reads.Learnt, moved.Asked, moved.Learnt, loop-body-below, loop-body.Post)
 
   while-loop-open-while-requires : while-loop-lts.Need-open-while-requires while-loop-calls while-loop-at while-loop.Post
-  while-loop-open-while-requires c κs = let p = c .before .before .before .before .before .before .pre .1 .0 in (p .0 .texts, p .0 .small, p .1 .room, p .1 .fits, p .2, p .3, p .4)
+  while-loop-open-while-requires c κs = let p = c .before .before .before .before .before .pre .1 .0 in (p .0 .texts, p .0 .small, p .1 .room, p .1 .fits, p .2, p .3, p .4)
 
   while-loop-loop-body-requires : while-loop-lts.Need-loop-body-requires while-loop-calls while-loop-at while-loop.Post
   while-loop-loop-body-requires c κs =
-      let s = c .before .before .before .before .before .before .before .before .before .before .before .before .before .before in
+      let s = c .before .before .before .before .before .before .before .before .before .before .before .before .before in
       let p = s .pre .1 in
       let g = opened-as (c .before .before .before .before .before .before .before .open-while .ensures (s .args .st .marks)) _ (c .before .before .moved .ensures) in
       let h = while-holds _ _ _ (p .0 .2) (p .0 .4) in
@@ -295,20 +295,20 @@ module _ (t : ℕ) where
       while-loop-lts.spec while-loop-calls while-loop-at while-loop.Post
       while-loop-open-while-requires
       (λ c κs. search needs)  -- moved-requires
-      (λ c. omega (arith, stmt-left _ _ _ _ (c .before .before .before .before .before .before .before .before .before .before .before .before .before .before .pre .1 .0 .2)))  -- sub-loop-body
+      (λ c. omega (arith, stmt-left _ _ _ _ (c .before .before .before .before .before .before .before .before .before .before .before .before .before .pre .1 .0 .2)))  -- sub-loop-body
       while-loop-loop-body-requires
       (λ c. search needs) (λ c. search needs)  -- same-length, same-length-2
-      (λ c. let s = c .before .before .before .before .before .before .before .before .before .before .before .before .before .before .before .before .before .before .before in let p = s .pre .1 .0 in while-walked _ _ _ _ _ (p .2) (p .3) (p .4) (opened-as (c .before .before .before .before .before .before .before .before .before .before .before .before .open-while .ensures (s .args .st .marks)) _ (c .before .before .before .before .before .before .before .moved .ensures)) (c .before .before .before .before .loop-body .ensures))  -- returns
+      (λ c. let s = c .before .before .before .before .before .before .before .before .before .before .before .before .before .before .before .before .before .before in let p = s .pre .1 .0 in while-walked _ _ _ _ _ (p .2) (p .3) (p .4) (opened-as (c .before .before .before .before .before .before .before .before .before .before .before .before .open-while .ensures (s .args .st .marks)) _ (c .before .before .before .before .before .before .before .moved .ensures)) (c .before .before .before .before .loop-body .ensures))  -- returns
 
   abbrev branch-calls : branch-lts.Claims
   branch-calls = (bodies.open_if.Reads.Asked, bodies.open_if.Reads.Learnt, moved.Asked, moved.Learnt, analyze-stmts-below, analyze-stmts.Post, λ κs a. (μ-branch-else κs a < t) × branch-else.Pre κs a, branch-else.Post)
 
   branch-open-if-requires : branch-lts.Need-open-if-requires branch-calls branch-at branch.Post
-  branch-open-if-requires c κs = let p = c .before .before .before .before .before .before .before .pre .1 .0 in (p .0 .texts, p .0 .small, p .1 .room, p .1 .fits, p .2, p .3, p .4)
+  branch-open-if-requires c κs = let p = c .before .before .before .before .before .before .pre .1 .0 in (p .0 .texts, p .0 .small, p .1 .room, p .1 .fits, p .2, p .3, p .4)
 
   branch-analyze-stmts-requires : branch-lts.Need-analyze-stmts-requires branch-calls branch-at branch.Post
   branch-analyze-stmts-requires c κs =
-      let s = c .before .before .before .before .before .before .before .before .before .before .before .before .before .before .before in
+      let s = c .before .before .before .before .before .before .before .before .before .before .before .before .before .before in
       let p = s .pre .1 in
       let g = opened-as (c .before .before .before .before .before .before .before .open-if .ensures (s .args .t7 .marks)) _ (c .before .before .moved .ensures) in
       let h = then-holds _ [] 0 _ (s .args .t7) (p .0 .2) (p .0 .3) (p .0 .4) in
@@ -316,7 +316,7 @@ module _ (t : ℕ) where
 
   branch-branch-else-requires : branch-lts.Need-branch-else-requires branch-calls branch-at branch.Post
   branch-branch-else-requires c κs =
-      let s = c .before .before .before .before .before .before .before .before .before .before .before .before .before .before .before .before .before .before .before .before .before .before .before .before in
+      let s = c .before .before .before .before .before .before .before .before .before .before .before .before .before .before .before .before .before .before .before .before .before .before .before in
       let p = s .pre .1 in
       let g = opened-as (c .before .before .before .before .before .before .before .before .before .before .before .before .before .before .before .before .open-if .ensures (s .args .t7 .marks)) _ (c .before .before .before .before .before .before .before .before .before .before .before .moved .ensures) in
       let v = c .before .before .before .before .before .before .before .before .analyze-stmts .ensures in
@@ -324,7 +324,7 @@ module _ (t : ℕ) where
 
   branch-add-e : branch-lts.Need-add-e branch-calls branch-at branch.Post
   branch-add-e c =
-      let s = c .before .before .before .before .before .before .before .before .before .before .before .before .before .before .before .before .before .before .before .before .before .before .before .before .before .before .before .before .before .before in
+      let s = c .before .before .before .before .before .before .before .before .before .before .before .before .before .before .before .before .before .before .before .before .before .before .before .before .before .before .before .before .before in
       let p = s .pre .1 in
       let g = opened-as (c .before .before .before .before .before .before .before .before .before .before .before .before .before .before .before .before .before .before .before .before .before .before .open-if .ensures (s .args .t7 .marks)) _ (c .before .before .before .before .before .before .before .before .before .before .before .before .before .before .before .before .before .moved .ensures) in
       let v = c .before .before .before .before .before .before .before .before .before .before .before .before .before .before .analyze-stmts .ensures in
@@ -332,7 +332,7 @@ module _ (t : ℕ) where
 
   branch-returns : branch-lts.Need-returns branch-calls branch-at branch.Post
   branch-returns c =
-      let s = c .before .before .before .before .before .before .before .before .before .before .before .before .before .before .before .before .before .before .before .before .before .before .before .before .before .before .before .before .before .before in
+      let s = c .before .before .before .before .before .before .before .before .before .before .before .before .before .before .before .before .before .before .before .before .before .before .before .before .before .before .before .before .before in
       let p = s .pre .1 in
       let g = opened-as (c .before .before .before .before .before .before .before .before .before .before .before .before .before .before .before .before .before .before .before .before .before .before .open-if .ensures (s .args .t7 .marks)) _ (c .before .before .before .before .before .before .before .before .before .before .before .before .before .before .before .before .before .moved .ensures) in
       let v = c .before .before .before .before .before .before .before .before .before .before .before .before .before .before .analyze-stmts .ensures in
@@ -343,7 +343,7 @@ module _ (t : ℕ) where
       branch-lts.spec branch-calls branch-at branch.Post
       branch-open-if-requires
       (λ c κs. search needs)  -- moved-requires
-      (λ c. omega (arith, stmt-left _ _ _ _ (c .before .before .before .before .before .before .before .before .before .before .before .before .before .before .before .pre .1 .0 .2)))  -- sub-analyze-stmts
+      (λ c. omega (arith, stmt-left _ _ _ _ (c .before .before .before .before .before .before .before .before .before .before .before .before .before .before .pre .1 .0 .2)))  -- sub-analyze-stmts
       branch-analyze-stmts-requires branch-branch-else-requires branch-add-e
       (λ c. omega (arith, c .before .before .before .before .before .before .before .before .before .before .before .before .before .before .before .before .before .before .before .before .before .scratch .given, c .before .before .before .before .before .before .before .before .before .before .before .before .before .scratch2 .given, c .before .before .before .before .scratch3 .given))  -- same-length
       (λ c. omega (arith, c .before .before .before .before .before .before .before .before .before .before .before .before .before .before .before .before .before .before .before .out .given, c .before .before .before .before .before .before .before .before .before .before .before .out2 .given, c .before .before .out3 .given))  -- same-length-2
@@ -354,13 +354,13 @@ module _ (t : ℕ) where
 
   branch-else-returns : branch-else-lts.Need-returns branch-else-calls branch-else-at branch-else.Post
   branch-else-returns c =
-      let p = c .before .before .before .before .before .before .before .before .pre .1 .0 in
+      let p = c .before .before .before .before .before .before .before .pre .1 .0 in
       let u = c .unite .ensures in
       none-walked _ _ _ _ _ _ _ _ (p .4) (p .5) (p .3) (c .before .before .if1 .taken) (p .1) _ refl refl (u .0 _ (p .1 .placed) (p .2)) (u .1 _ _)
 
   branch-else-analyze-stmts-requires : branch-else-lts.Need-analyze-stmts-requires branch-else-calls branch-else-at branch-else.Post
   branch-else-analyze-stmts-requires c κs =
-      let s = c .before .before .before .before .before .before .before .before .before .before .before .before .before .before in
+      let s = c .before .before .before .before .before .before .before .before .before .before .before .before .before in
       let p = s .pre .1 .0 in
       let b = c .before .before .before .before .before .before .before .before .if1 .left in
       let st = stateOf (s .args .t .at) (s .args .t .sink) _ in
@@ -369,7 +369,7 @@ module _ (t : ℕ) where
 
   branch-else-returns-2 : branch-else-lts.Need-returns-2 branch-else-calls branch-else-at branch-else.Post
   branch-else-returns-2 c =
-      let p = c .before .before .before .before .before .before .before .before .before .before .before .before .before .before .before .before .before .before .before .before .before .before .before .pre .1 .0 in
+      let p = c .before .before .before .before .before .before .before .before .before .before .before .before .before .before .before .before .before .before .before .before .before .before .pre .1 .0 in
       let v = c .before .before .before .before .before .before .before .before .analyze-stmts .ensures in
       let u = c .unite2 .ensures in
       some-walked _ _ _ _ _ _ _ _ (p .4) (p .5) (p .3) (c .before .before .before .before .before .before .before .before .before .before .before .before .before .before .before .before .before .if1 .left) _ _ (record { at = refl; marks = refl; emitted = emitted-none (p .1 .fits); becomes = c .before .before .before .before .before .before .before .before .before .before .before .before .before .before .before .enter .ensures }) _ _ _ v _ refl refl (u .0 _ (p .2) (v .placed)) (u .1 _ _)
@@ -377,16 +377,16 @@ module _ (t : ℕ) where
   branch-else-closed : {M : Type 1} → branch-else-lts.Closed branch-else-calls branch-else-at branch-else.Post M
   branch-else-closed =
       branch-else-lts.spec branch-else-calls branch-else-at branch-else.Post
-      (λ c. else-in _ _ _ (c .before .before .before .before .before .pre .1 .0 .3))  -- shared-slice-read-if1
-      (λ c κs. let p = c .before .before .before .before .before .before .before .pre .1 .0 in (p .1 .placed .whole, p .2 .whole))  -- unite-requires
-      (λ c. let p = c .before .before .before .before .before .before .before .before .pre .1 .0 in omega (arith, else-in _ _ _ (p .3), p .0 .small))  -- add-then
+      (λ c. else-in _ _ _ (c .before .before .before .before .pre .1 .0 .3))  -- shared-slice-read-if1
+      (λ c κs. let p = c .before .before .before .before .before .before .pre .1 .0 in (p .1 .placed .whole, p .2 .whole))  -- unite-requires
+      (λ c. let p = c .before .before .before .before .before .before .before .pre .1 .0 in omega (arith, else-in _ _ _ (p .3), p .0 .small))  -- add-then
       branch-else-returns
       (λ c. search needs)  -- sub-enter
-      (λ c κs. let p = c .before .before .before .before .before .before .before .pre .1 .0 in (p .1 .room, omega (arith, p .4)))  -- enter-requires
-      (λ c. let p = c .before .before .before .before .before .before .before .before .before .before .before .before .pre .1 .0 in omega (arith, else-in _ _ _ (p .3), p .0 .small))  -- add-analyze-stmts
-      (λ c. omega (arith, c .before .before .before .before .before .before .before .before .before .before .before .before .before .before .pre .1 .0 .4))  -- sub-analyze-stmts
+      (λ c κs. let p = c .before .before .before .before .before .before .pre .1 .0 in (p .1 .room, omega (arith, p .4)))  -- enter-requires
+      (λ c. let p = c .before .before .before .before .before .before .before .before .before .before .before .pre .1 .0 in omega (arith, else-in _ _ _ (p .3), p .0 .small))  -- add-analyze-stmts
+      (λ c. omega (arith, c .before .before .before .before .before .before .before .before .before .before .before .before .before .pre .1 .0 .4))  -- sub-analyze-stmts
       branch-else-analyze-stmts-requires
-      (λ c κs. (c .before .before .before .before .before .before .before .before .before .before .before .before .before .before .before .before .before .before .before .before .before .before .pre .1 .0 .2 .whole, c .before .before .before .before .before .before .before .analyze-stmts .ensures .placed .whole))  -- unite-requires-2
+      (λ c κs. (c .before .before .before .before .before .before .before .before .before .before .before .before .before .before .before .before .before .before .before .before .before .pre .1 .0 .2 .whole, c .before .before .before .before .before .before .before .analyze-stmts .ensures .placed .whole))  -- unite-requires-2
       (λ c. search needs)  -- same-length
       (λ c. search needs)  -- same-length-2
       branch-else-returns-2

@@ -9,7 +9,7 @@ pub name-of-spec : {M : Type 1} → statement M
 name-of-spec =
     tie.close (tie.spec
     (λ c. search needs)  -- mul-at
-    (λ c. search needs)  -- shared-slice-read-at
+    (λ c. search needs)  -- element-copy-out-at
     (λ c. search needs)  -- shared-slice-read-wide
     (λ c κs. search needs)  -- wide-requires
     (λ c. search needs)  -- add-result
@@ -18,4 +18,4 @@ name-of-spec =
     (λ c. search needs)  -- sub-result
     (λ c. search needs)  -- part-result-start
     (λ c. search needs)  -- part-result-end
-    (λ c. name-read _ _ (c .before .before .before .before .before .before .pre) refl (c .before .wide .ensures .0) refl))  -- returns
+    (λ c. name-read _ _ (c .before .before .before .before .before .pre) refl (c .before .wide .ensures .0) refl))  -- returns

@@ -7,7 +7,7 @@ use Rattle.lines.proofs.pieces.piece.Tie as tie
 pub piece-spec : {M : Type 1} → statement M
 piece-spec =
     tie.close (tie.spec
-    (λ c κs. c .before .before .before .before .pre .1 (c .if1 .taken))  -- name-of-requires
+    (λ c κs. c .before .before .before .pre .1 (c .if1 .taken))  -- name-of-requires
     (λ c. search piecing)  -- returns
     (λ c κs. search needs)  -- phrase-of-requires
     (λ c. search piecing)  -- returns-2

@@ -22,7 +22,7 @@ returns c =
 write-part-requires : tie.Need-write-part-requires Inv-loop μ-loop
 write-part-requires c κs =
     let u = c .before .before .before .before in
-    let s = u .before .before .before .before .before .before in
+    let s = u .before .before .before .before .before in
     let e = c .before .before .wide .ensures .0 ∙ u .before .row-of .ensures (u .loop .k) (search needs) in
     (s .pre .0, omega (arith, u .loop .inv .room, row-room (s .args .p .kind)), λ g. name-needed (s .args .p) (u .loop .k) (s .pre .2) e g)
 

@@ -16,7 +16,7 @@ check-index-spec =
     (λ c κs. search reporting)  -- report-declared-requires
     (λ c. search needs)  -- enum-known-i
     (λ c κs. search reporting)  -- report-declared-requires-2
-    (λ c. rw (← c .before .before .index-fault .ensures, c .enum-told .given .1) (emitted-none (c .before .before .before .before .before .before .pre .2)))  -- returns
+    (λ c. rw (← c .before .before .index-fault .ensures, c .enum-told .given .1) (emitted-none (c .before .before .before .before .before .pre .2)))  -- returns
     (λ c. search needs)  -- same-length
     (λ c. rw (← c .before .before .before .before .before .before .index-fault .ensures, c .before .before .before .before .enum-told2 .given .1) (emitted-one (c .before .before .report-declared .ensures)))  -- returns-2
     (λ c. search needs)  -- same-length-2

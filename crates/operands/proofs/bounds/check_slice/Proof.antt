@@ -17,7 +17,7 @@ check-slice-spec =
     (λ c κs. search reporting)  -- report-requires
     (λ c. search needs)  -- enum-known-a
     (λ c κs. search reporting)  -- report-declared-requires
-    (λ c. rw (← c .before .before .slice-fault .ensures, c .enum-told .given .1) (emitted-none (c .before .before .before .before .before .before .pre .2)))  -- returns
+    (λ c. rw (← c .before .before .slice-fault .ensures, c .enum-told .given .1) (emitted-none (c .before .before .before .before .before .pre .2)))  -- returns
     (λ c. search needs)  -- same-length
     (λ c. rw (← c .before .before .before .before .before .before .before .slice-fault .ensures, c .before .before .before .before .before .enum-told2 .given .1) (emitted-report (c .before .before .before .error .ensures) (c .before .before .report .ensures)))  -- returns-2
     (λ c. search needs)  -- same-length-2

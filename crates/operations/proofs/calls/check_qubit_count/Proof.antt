@@ -8,7 +8,7 @@ pub check-qubit-count-spec : {M : Type 1} → statement M
 check-qubit-count-spec =
     tie.close (tie.spec
     (λ c κs. search needs)  -- is-arity-requires
-    (λ c. qubits-fit (c .before .before .before .before .before .args .call) _ (c .before .before .before .before .before .args .decl) (c .before .is-arity .ensures) (c .if1 .taken) (c .before .before .before .before .before .pre .3))  -- returns
-    (λ c κs. let p = c .before .before .before .before .before .before .before .pre in (p .0, record { named = p .1; noted = p .2 }, p .3))  -- report-requires
+    (λ c. qubits-fit (c .before .before .before .before .args .call) _ (c .before .before .before .before .args .decl) (c .before .is-arity .ensures) (c .if1 .taken) (c .before .before .before .before .pre .3))  -- returns
+    (λ c κs. let p = c .before .before .before .before .before .before .pre in (p .0, record { named = p .1; noted = p .2 }, p .3))  -- report-requires
     (λ c. search needs)  -- same-length
-    (λ c. qubits-differ (c .before .before .before .before .before .before .before .before .before .before .args .call) _ (c .before .before .before .before .before .before .before .before .before .before .args .decl) (c .before .before .before .before .before .before .is-arity .ensures) (c .before .before .before .before .before .if1 .left) (c .before .before .report .ensures)))  -- returns-2
+    (λ c. qubits-differ (c .before .before .before .before .before .before .before .before .before .args .call) _ (c .before .before .before .before .before .before .before .before .before .args .decl) (c .before .before .before .before .before .before .is-arity .ensures) (c .before .before .before .before .before .if1 .left) (c .before .before .report .ensures)))  -- returns-2

@@ -5,13 +5,13 @@ use Rattle.typing.proofs.calls.check_argument.Statement.{statement}
 use Rattle.typing.proofs.calls.check_argument.Tie as tie
 
 returns : tie.Need-returns
-returns c = let p = c .before .before .before .before .before .before .pre in argument-free _ _ _ _ (c .before .before .before .before .before .before .args .t .typed) (p .4) (c .if1 .taken) (p .2)
+returns c = let p = c .before .before .before .before .before .pre in argument-free _ _ _ _ (c .before .before .before .before .before .args .t .typed) (p .4) (c .if1 .taken) (p .2)
 
 check-wanted-requires : tie.Need-check-wanted-requires
-check-wanted-requires c κs = let p = c .before .before .before .before .before .before .before .before .pre in (p .0, p .2, (λ a. p .3), p .5, p .6)
+check-wanted-requires c κs = let p = c .before .before .before .before .before .before .before .pre in (p .0, p .2, (λ a. p .3), p .5, p .6)
 
 returns-2 : tie.Need-returns-2
-returns-2 c = argument-there _ _ _ _ (c .before .before .before .before .before .before .before .before .before .before .before .args .t .typed) (c .before .before .before .before .before .before .before .before .before .before .before .pre .4) (c .before .before .before .before .before .if1 .left) (c .before .before .before .before .param-type .ensures) (c .before .before .check-wanted .ensures)
+returns-2 c = argument-there _ _ _ _ (c .before .before .before .before .before .before .before .before .before .before .args .t .typed) (c .before .before .before .before .before .before .before .before .before .before .pre .4) (c .before .before .before .before .before .if1 .left) (c .before .before .before .before .param-type .ensures) (c .before .before .check-wanted .ensures)
 
 pub check-argument-spec : {M : Type 1} → statement M
 check-argument-spec =

@@ -18,7 +18,7 @@ check-callee-spec =
     (λ c. search needs)  -- enum-known-sig
     (λ c. search needs)  -- enum-told
     (λ c κs. search needs)  -- error-requires
-    (λ c κs. let p = c .before .before .before .before .before .before .before .before .before .pre in (p .0, error-fits (c .error .ensures) (p .3), p .2))  -- report-requires
+    (λ c κs. let p = c .before .before .before .before .before .before .before .before .pre in (p .0, error-fits (c .error .ensures) (p .3), p .2))  -- report-requires
     (λ c. search needs)  -- same-length
     returns
     (λ c κs. search needs)  -- count-arguments-requires

@@ -11,8 +11,8 @@ returns-2 c = count-wrong _ _ _ _ _ (c .before .before .before .before .before .
 pub count-arguments-spec : {M : Type 1} → statement M
 count-arguments-spec =
     tie.close (tie.spec
-    (λ c. count-right _ _ _ _ _ (c .if1 .taken) (c .before .before .before .before .pre .1))  -- returns
+    (λ c. count-right _ _ _ _ _ (c .if1 .taken) (c .before .before .before .pre .1))  -- returns
     (λ c κs. search needs)  -- error-with-note-requires
-    (λ c κs. let p = c .before .before .before .before .before .before .before .pre in (p .0, noted-fits (c .error-with-note .ensures) (p .2) tt, p .1))  -- report-requires
+    (λ c κs. let p = c .before .before .before .before .before .before .pre in (p .0, noted-fits (c .error-with-note .ensures) (p .2) tt, p .1))  -- report-requires
     (λ c. search needs)  -- same-length
     returns-2)

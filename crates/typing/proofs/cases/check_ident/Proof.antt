@@ -8,7 +8,7 @@ returns : tie.Need-returns
 returns c = ident-missing _ _ _ (c .before .before .before .before .before .before .get .ensures) (c .before .before .before .before .before .before .before .before .u16-at .ensures .0) (c .before .before .before .before .before .before .before .span-at .ensures) (c .before .before .before .before .enum-told .given .1) (c .before .before .refuse .ensures)
 
 ident-type-requires : tie.Need-ident-type-requires
-ident-type-requires c κs = let p = c .before .before .before .before .before .before .before .before .before .before .before .pre in (p .0 .texts, p .1, name-below (c .before .before .before .before .before .before .u16-at .ensures .0) (p .3))
+ident-type-requires c κs = let p = c .before .before .before .before .before .before .before .before .before .before .pre in (p .0 .texts, p .1, name-below (c .before .before .before .before .before .before .u16-at .ensures .0) (p .3))
 
 returns-2 : tie.Need-returns-2
 returns-2 c = ident-there _ _ _ (c .before .before .before .before .before .before .before .get .ensures) (c .before .before .before .before .before .before .before .before .before .u16-at .ensures .0) (c .before .before .before .before .before .before .before .before .span-at .ensures) (c .before .before .before .before .before .symbol .given .1) (c .before .before .ident-type .ensures)

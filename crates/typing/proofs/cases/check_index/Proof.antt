@@ -8,7 +8,7 @@ returns : tie.Need-returns
 returns c = index-missing _ _ _ (c .before .before .before .before .before .before .get .ensures) (c .before .before .before .before .before .before .before .before .before .u16-at .ensures .0) (c .before .before .before .before .before .before .before .span-at .ensures) (c .before .before .before .before .before .before .before .before .u64-at .ensures) (c .before .before .before .before .enum-told .given .1) (c .before .before .refuse .ensures)
 
 index-type-requires : tie.Need-index-type-requires
-index-type-requires c κs = let p = c .before .before .before .before .before .before .before .before .before .before .before .before .pre in (p .0 .texts, p .1, name-below (c .before .before .before .before .before .before .before .u16-at .ensures .0) (p .3))
+index-type-requires c κs = let p = c .before .before .before .before .before .before .before .before .before .before .before .pre in (p .0 .texts, p .1, name-below (c .before .before .before .before .before .before .before .u16-at .ensures .0) (p .3))
 
 returns-2 : tie.Need-returns-2
 returns-2 c = index-there _ _ _ (c .before .before .before .before .before .before .before .get .ensures) (c .before .before .before .before .before .before .before .before .before .before .u16-at .ensures .0) (c .before .before .before .before .before .before .before .before .span-at .ensures) (c .before .before .before .before .before .symbol .given .1) (c .before .before .before .before .before .before .before .before .before .u64-at .ensures) (c .before .before .index-type .ensures)
