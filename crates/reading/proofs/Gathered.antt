@@ -4,10 +4,11 @@ use mathlib.Core.Path.{_≡_, refl, sym, ap, _∙_}
 use mathlib.Core.List.{List, [], _∷_, _++_, map, map-append}
 use mathlib.Core.Bool.{Bool, true, false, not}
 use mathlib.Core.Logic.{_⊎_, inl, inr}
+use native.Mathlib.Decide.{ℕ-discrete}
 use native.Mathlib.Omega.{arith}
 use native.Mathlib.Numerals.{add-one}
 use lib.ListN.{length, getD, take, drop, set, length-set, length-take}
-use lib.Seq.{take-suc-set}
+use lib.Seq.{take-suc-set, getD-set-same, getD-set-other}
 use lib.Dec.{leb}
 use borrow.Author.Tests.{le-leb, lt-leb}
 use Rattle.tree.specs.AnsLaws.{never-ok}
@@ -18,7 +19,7 @@ use Rattle.tree.specs.Read.{number}
 use Rattle.tree.specs.Texts.{allowed, among, text, moreTexts, texts, textAt, past}
 use Rattle.tree.proofs.Steps.{byte-in, byte-end, number-in, number-end}
 use Rattle.reading.specs.Answers.{forget, gaveNumber}
-use Rattle.reading.specs.Section.{textsFrom, pastTexts, textCount, kindOf, kindsOf, checksum, Gathered}
+use Rattle.reading.specs.Section.{textsFrom, pastTexts, textCount, kindOf, kindsOf, checksum, hasSum, slotOf, Gathered}
 use Rattle.tree.specs.Decode.{textsOf}
 use Rattle.reading.specs.declared.answers.Read.{Read}
 use Rattle.reading.specs.declared.answers.Read.the-variants.{At, Refused}
@@ -26,6 +27,7 @@ use Rattle.reading.specs.declared.answers.ReadNumber.{ReadNumber}
 use Rattle.reading.proofs.Taken.{taken-ok, taken-not, numberKind}
 use Rattle.text.proofs.Order.{le-or-lt}
 use Rattle.reading.proofs.Values.{not-both, bind-refused, bind-into}
+use Rattle.reading.proofs.Repeated.{no-sum, sum-last}
 use Rattle.reading.proofs.Section.{Judged, bytes-judged, text-part, empty-is, long-is, cut-is, whole-is, text-after}
 
 -- one text more from a place on
@@ -120,8 +122,19 @@ module _ (s : List ℕ) (n k : ℕ) (counted : textCount s 0 ≡ ok n k) where
 gathered-none : (s kinds : List ℕ) (n : ℕ) (r : Read) (m p : ℕ) → r ≡ Refused m p → length kinds ≡ 256 → r ≡ forget (texts s 0) → Gathered s kinds n r
 gathered-none s kinds n r m p g l e = record { answer = e; stored = λ k h. absurd (not-both h g); long = l }
 
+-- a table that tells which slots were met: a checksum whose slot was not met is not among those that it tells of
+abbrev pub Met : List ℕ → List ℕ → Type 0
+Met met sums = (x : ℕ) → getD met (slotOf x) 0 ≡ 0 → hasSum x sums ≡ false
+
+met-more : (met sums : List ℕ) (w slot : ℕ) → slot ≡ slotOf w → slot < length met → Met met sums → Met (set met slot 1) (sums ++ (w ∷ []))
+met-more met sums w slot e l told x z = go (ℕ-discrete (slotOf x) slot)
+  where
+    go : Dec (slotOf x ≡ slot) → hasSum x (sums ++ (w ∷ [])) ≡ false
+    go (yes f) = absurd (let y : 1 ≡ 0 = sym (getD-set-same met slot 1 0 l) ∙ (rw f at z) in omega arith)
+    go (no f) = sum-last x w sums (λ g. f (rw g (sym e))) (told x (sym (getD-set-other met slot (slotOf x) 1 0 f) ∙ z))
+
 -- while texts are read: `i` of `n` stand before `k`
-pub record Going (s kinds sums : List ℕ) (n i k : ℕ) : Type 0 where
+pub record Going (s kinds sums met : List ℕ) (n i k : ℕ) : Type 0 where
   pub done-few : i ≤ n
   pub few : n ≤ textsLimit
   pub place : pastTexts s i 2 ≡ k
@@ -130,10 +143,12 @@ pub record Going (s kinds sums : List ℕ) (n i k : ℕ) : Type 0 where
   pub long : length kinds ≡ 256
   pub summed : take i sums ≡ map checksum (textsFrom s i 2)
   pub room : length sums ≡ 256
+  pub known : Met met (take i sums)
+  pub slots : length met ≡ 1024
 
-pub going-start : (s : List ℕ) (k n : ℕ) (kinds sums : List ℕ) → textCount s 0 ≡ ok n k → length kinds ≡ 256 → length sums ≡ 256 → Going s kinds sums n 0 k
-unfolding bind pastTexts textsFrom
-going-start s k n kinds sums counted long room = record {
+pub going-start : (s : List ℕ) (k n : ℕ) (kinds sums met : List ℕ) → textCount s 0 ≡ ok n k → length kinds ≡ 256 → length sums ≡ 256 → length met ≡ 1024 → Going s kinds sums met n 0 k
+unfolding bind pastTexts textsFrom hasSum
+going-start s k n kinds sums met counted long room slots = record {
   done-few = omega arith;
   few = count-few s n k counted;
   place = sym (count-next s n k counted);
@@ -142,9 +157,11 @@ going-start s k n kinds sums counted long room = record {
   long = long;
   summed = refl;
   room = room;
+  known = λ x z. refl;
+  slots = slots;
 }
 
-module _ (s kinds sums : List ℕ) (n i k : ℕ) (going : Going s kinds sums n i k) where
+module _ (s kinds sums met : List ℕ) (n i k : ℕ) (going : Going s kinds sums met n i k) where
   -- the checksums of the earlier texts
   pub going-few : i ≤ 256
   going-few = omega (arith, going .few, going .done-few)
@@ -179,9 +196,9 @@ module _ (s kinds sums : List ℕ) (n i k : ℕ) (going : Going s kinds sums n i
         unfolding check refuse _>>_ bind forget
         going-again t = gathered-none s kinds n (Refused 4 k) 4 k refl (going .long) (rw (remain-more h, text-is, t))
 
-        pub going-more : r ≡ false → (v w : ℕ) → v ≡ kindOf (take (next - (k + 1)) (drop (k + 1) s)) → w ≡ checksum (take (next - (k + 1)) (drop (k + 1) s)) → Going s (set kinds i v) (set sums i w) n (i + 1) next
+        pub going-more : r ≡ false → (v w slot : ℕ) → v ≡ kindOf (take (next - (k + 1)) (drop (k + 1) s)) → w ≡ checksum (take (next - (k + 1)) (drop (k + 1) s)) → slot ≡ slotOf w → slot < 1024 → Going s (set kinds i v) (set sums i w) (set met slot 1) n (i + 1) next
         unfolding check done _>>_ bind
-        going-more t v w f u =
+        going-more t v w slot f u o p =
             let l : i < length kinds = omega (arith, going .long, going .few) in
             let m : i < length sums = omega (arith, going .room, going .few) in
             record {
@@ -193,7 +210,13 @@ module _ (s kinds sums : List ℕ) (n i k : ℕ) (going : Going s kinds sums n i
               long = length-set kinds i v ∙ going .long;
               summed = rw (add-one, take-suc-set sums i w m, texts-more s i 2, map-append, going .summed, going .place, u, part-is) refl;
               room = length-set sums i w ∙ going .room;
+              known = rw (add-one, take-suc-set sums i w m) (met-more met (take i sums) w slot o (omega (arith, going .slots)) (going .known));
+              slots = length-set met slot 1 ∙ going .slots;
             }
+
+      -- where the slot was not met, no other is asked
+      pub going-new : (v w slot : ℕ) → v ≡ kindOf (take (next - (k + 1)) (drop (k + 1) s)) → w ≡ checksum (take (next - (k + 1)) (drop (k + 1) s)) → slot ≡ slotOf w → slot < 1024 → getD met slot 0 ≡ 0 → Going s (set kinds i v) (set sums i w) (set met slot 1) n (i + 1) next
+      going-new v w slot f u o p z = going-more false (no-sum _ (textsFrom s i 2) (rw (sym (going .summed), sym u) (going .known w (rw (sym o) z)))) refl v w slot f u o p
 
   pub going-end : n ≤ i → Gathered s kinds n (At k)
   unfolding moreTexts done forget textsOf given kindsOf
@@ -203,4 +226,4 @@ module _ (s kinds sums : List ℕ) (n i k : ℕ) (going : Going s kinds sums n i
       let t : texts s 0 ≡ ok (textsFrom s i 2) k = going .remain ∙ rw z refl in
       record { answer = rw t; stored = λ m g. rw (t, sym j) (going .kept); long = going .long }
 
-pub ruleset gathering = (going-start, going-few, going-part, going-refused, going-within, going-again, going-more, going-end)
+pub ruleset gathering = (going-start, going-few, going-part, going-refused, going-within, going-again, going-more, going-new, going-end)
