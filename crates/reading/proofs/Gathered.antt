@@ -18,17 +18,24 @@ use Rattle.tree.specs.Ans.{ok, refused, bind, _>>=_, _>>_, done, here, refuse, 
 use Rattle.tree.specs.Read.{number}
 use Rattle.tree.specs.Texts.{allowed, among, text, moreTexts, texts, textAt, past}
 use Rattle.tree.proofs.Steps.{byte-in, byte-end, number-in, number-end}
-use Rattle.reading.specs.Answers.{forget, gaveNumber}
-use Rattle.reading.specs.Section.{textsFrom, pastTexts, textCount, kindOf, kindsOf, checksum, hasSum, slotOf, Gathered}
+use Rattle.reading.specs.Answers.{forget, gaveByte, gaveNumber, byteAnswer}
+use Rattle.reading.specs.Section.{textsFrom, pastTexts, textCount, kindOf, kindRead, kindsOf, checksum, hasSum, slotOf, Gathered}
 use Rattle.tree.specs.Decode.{textsOf}
 use Rattle.reading.specs.declared.answers.Read.{Read}
 use Rattle.reading.specs.declared.answers.Read.the-variants.{At, Refused}
+use Rattle.reading.specs.declared.answers.ReadByte.{ReadByte}
 use Rattle.reading.specs.declared.answers.ReadNumber.{ReadNumber}
-use Rattle.reading.proofs.Taken.{taken-ok, taken-not, numberKind}
+use Rattle.reading.proofs.Taken.{taken-ok, taken-not, taken-left, taken-refused, byteKind, numberKind}
 use Rattle.text.proofs.Order.{le-or-lt}
+use Rattle.reading.proofs.Runs.{skip, one, runs-last}
 use Rattle.reading.proofs.Values.{not-both, bind-refused, bind-into}
 use Rattle.reading.proofs.Repeated.{no-sum, sum-last}
 use Rattle.reading.proofs.Section.{Judged, bytes-judged, text-part, empty-is, long-is, cut-is, whole-is, text-after}
+
+-- a text's kind is refused as the text is
+kind-left : (s : List ℕ) (at : ℕ) → forget (kindRead s at) ≡ forget (text [] s at)
+unfolding kindRead
+kind-left s at = one (text []) kindOf s at ∙ sym (runs-last (skip (text [])) s at _ refl)
 
 -- one text more from a place on
 texts-more : (s : List ℕ) (i at : ℕ) → textsFrom s (suc i) at ≡ textsFrom s i at ++ (textAt s (pastTexts s i at) ∷ [])
@@ -42,10 +49,10 @@ past-more s zero at = refl
 past-more s (suc i) at = past-more s i (past s at)
 
 -- a text that was read
-module _ (s : List ℕ) (at : ℕ) (r : Read) (next : ℕ) (read : r ≡ forget (text [] s at)) (g : r ≡ At next) where
+module _ (s : List ℕ) (at : ℕ) (a : ReadByte) (v next : ℕ) (read : a ≡ gaveByte (kindRead s at)) (g : a ≡ ReadByte.At v next) where
   not-refused : (m p : ℕ) → text [] s at ≡ refused m p → ⊥
-  unfolding forget
-  not-refused m p e = not-both g (read ∙ ap forget e)
+  unfolding kindRead _>>=_ bind
+  not-refused m p e = never-ok {number = m} {place = p} (taken-ok byteKind a (kindRead s at) read v next g) (rw e)
 
   text-told : (length s ≤ at) ⊎ (at < length s) → (getD s at 0 ≤ 0) ⊎ (0 < getD s at 0) → (getD s at 0 ≤ textLimit) ⊎ (textLimit < getD s at 0) → (past s at ≤ length s) ⊎ (length s < past s at)
       → (text [] s at ≡ ok (textAt s at) (past s at)) × (past s at ≤ length s)
@@ -66,9 +73,15 @@ module _ (s : List ℕ) (at : ℕ) (r : Read) (next : ℕ) (read : r ≡ forget 
   told : (text [] s at ≡ ok (textAt s at) (past s at)) × (past s at ≤ length s)
   told = text-told (le-or-lt _ _) (le-or-lt _ _) (le-or-lt _ _) (le-or-lt _ _)
 
+  kind-told : ok v next ≡ ok (kindOf (textAt s at)) (past s at)
+  unfolding kindRead done _>>=_ bind
+  kind-told = sym (taken-ok byteKind a (kindRead s at) read v next g) ∙ rw (told .0) refl
+
   text-next : next ≡ past s at
-  unfolding forget
-  text-next = let z : At (past s at) ≡ At next = sym (ap forget (told .0)) ∙ sym read ∙ g in cc
+  text-next = let z = kind-told in cc
+
+  text-kind : v ≡ kindOf (textAt s at)
+  text-kind = let z = kind-told in cc
 
   text-read : text [] s at ≡ ok (textAt s at) next
   text-read = rw text-next (told .0)
@@ -176,37 +189,40 @@ module _ (s kinds sums met : List ℕ) (n i k : ℕ) (going : Going s kinds sums
   unfolding moreTexts _>>=_
   remain-more h = going .remain ∙ rw (left h) refl
 
-  module _ (h : i < n) (b : Read) (e : b ≡ forget (text [] s k)) where
-    pub going-refused : (m p : ℕ) → b ≡ Refused m p → Gathered s kinds n b
-    going-refused m p g = gathered-none s kinds n b m p g (going .long) (rw (remain-more h) (bind-refused _ _ b m p (rw (text-after (textsFrom s i 2) s k) (bind-refused _ _ b m p e g)) g))
+  module _ (h : i < n) (a : ReadByte) (e : a ≡ gaveByte (kindRead s k)) where
+    pub going-refused : (m p : ℕ) → a ≡ ReadByte.Refused m p → (b : Read) → b ≡ forget (byteAnswer a) → Gathered s kinds n b
+    going-refused m p g b f =
+        let z : b ≡ Refused m p = taken-refused byteKind a m p g b f in
+        let y : b ≡ forget (text [] s k) = taken-left byteKind a (kindRead s k) e b f ∙ kind-left s k in
+        gathered-none s kinds n b m p z (going .long) (rw (remain-more h) (bind-refused _ _ b m p (rw (text-after (textsFrom s i 2) s k) (bind-refused _ _ b m p y z)) z))
 
-    module _ (next : ℕ) (g : b ≡ At next) where
+    module _ (v next : ℕ) (g : a ≡ ReadByte.At v next) where
       pub going-within : pastTexts s i 2 ≤ length s
-      going-within = omega (arith, going .place, text-inside s k b next e g)
+      going-within = omega (arith, going .place, text-inside s k a v next e g)
 
       part-is : take (next - (k + 1)) (drop (k + 1) s) ≡ textAt s k
-      part-is = text-part s k next (text-next s k b next e g)
+      part-is = text-part s k next (text-next s k a v next e g)
 
       module _ (r : Bool) (known : r ≡ among (take (next - (k + 1)) (drop (k + 1) s)) (textsFrom s i 2)) where
         text-is : text (textsFrom s i 2) s k ≡ _>>_ (check (not r) 4 k) (done (textAt s k)) s next
         unfolding bind
-        text-is = text-after (textsFrom s i 2) s k ∙ rw (text-read s k b next e g, rw part-is at known) refl
+        text-is = text-after (textsFrom s i 2) s k ∙ rw (text-read s k a v next e g, rw part-is at known) refl
 
         pub going-again : r ≡ true → Gathered s kinds n (Refused 4 k)
         unfolding check refuse _>>_ bind forget
         going-again t = gathered-none s kinds n (Refused 4 k) 4 k refl (going .long) (rw (remain-more h, text-is, t))
 
-        pub going-more : r ≡ false → (v w slot : ℕ) → v ≡ kindOf (take (next - (k + 1)) (drop (k + 1) s)) → w ≡ checksum (take (next - (k + 1)) (drop (k + 1) s)) → slot ≡ slotOf w → slot < 1024 → Going s (set kinds i v) (set sums i w) (set met slot 1) n (i + 1) next
+        pub going-more : r ≡ false → (w slot : ℕ) → w ≡ checksum (take (next - (k + 1)) (drop (k + 1) s)) → slot ≡ slotOf w → slot < 1024 → Going s (set kinds i v) (set sums i w) (set met slot 1) n (i + 1) next
         unfolding check done _>>_ bind
-        going-more t v w slot f u o p =
+        going-more t w slot u o p =
             let l : i < length kinds = omega (arith, going .long, going .few) in
             let m : i < length sums = omega (arith, going .room, going .few) in
             record {
               done-few = omega arith;
               few = going .few;
-              place = rw add-one (past-more s i 2 ∙ rw (going .place) (sym (text-next s k b next e g)));
+              place = rw add-one (past-more s i 2 ∙ rw (going .place) (sym (text-next s k a v next e g)));
               remain = remain-more h ∙ rw (text-is, t, add-one, texts-more s i 2, going .place) refl;
-              kept = rw (add-one, take-suc-set kinds i v l, texts-more s i 2, map-append, going .kept, going .place, f, part-is) refl;
+              kept = rw (add-one, take-suc-set kinds i v l, texts-more s i 2, map-append, going .kept, going .place, text-kind s k a v next e g) refl;
               long = length-set kinds i v ∙ going .long;
               summed = rw (add-one, take-suc-set sums i w m, texts-more s i 2, map-append, going .summed, going .place, u, part-is) refl;
               room = length-set sums i w ∙ going .room;
@@ -215,8 +231,8 @@ module _ (s kinds sums met : List ℕ) (n i k : ℕ) (going : Going s kinds sums
             }
 
       -- where the slot was not met, no other is asked
-      pub going-new : (v w slot : ℕ) → v ≡ kindOf (take (next - (k + 1)) (drop (k + 1) s)) → w ≡ checksum (take (next - (k + 1)) (drop (k + 1) s)) → slot ≡ slotOf w → slot < 1024 → getD met slot 0 ≡ 0 → Going s (set kinds i v) (set sums i w) (set met slot 1) n (i + 1) next
-      going-new v w slot f u o p z = going-more false (no-sum _ (textsFrom s i 2) (rw (sym (going .summed), sym u) (going .known w (rw (sym o) z)))) refl v w slot f u o p
+      pub going-new : (w slot : ℕ) → w ≡ checksum (take (next - (k + 1)) (drop (k + 1) s)) → slot ≡ slotOf w → slot < 1024 → getD met slot 0 ≡ 0 → Going s (set kinds i v) (set sums i w) (set met slot 1) n (i + 1) next
+      going-new w slot u o p z = going-more false (no-sum _ (textsFrom s i 2) (rw (sym (going .summed), sym u) (going .known w (rw (sym o) z)))) refl w slot u o p
 
   pub going-end : n ≤ i → Gathered s kinds n (At k)
   unfolding moreTexts done forget textsOf given kindsOf

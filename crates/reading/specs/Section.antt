@@ -9,7 +9,7 @@ use Rattle.ast.specs.Tree.{Text}
 use Rattle.tree.specs.Limits.{textsLimit}
 use Rattle.tree.specs.Ans.{Reader, _>>=_, _>>_, done, here, check}
 use Rattle.tree.specs.Read.{u16}
-use Rattle.tree.specs.Texts.{isName, isFloat, texts, textAt, past}
+use Rattle.tree.specs.Texts.{isName, isFloat, text, texts, textAt, past}
 use Rattle.tree.specs.Decode.{textsOf}
 use Rattle.reading.specs.declared.answers.Read.{Read}
 use Rattle.reading.specs.Answers.{forget}
@@ -34,6 +34,12 @@ kindOf x = kindBy (isName x) (isFloat x)
 
 unfoldable pub ofKind : ℕ → Text → Bool
 ofKind kind x = eqb (kindOf x) kind
+
+-- a text, of which the kind is told
+unfoldable pub kindRead : Reader ℕ
+kindRead = do
+  x ← text []
+  done (kindOf x)
 
 unfoldable pub kindsOf : List ℕ → List ℕ
 kindsOf s = map kindOf (textsOf s)

@@ -10,7 +10,7 @@ pub enum Read {
     Refused(u8, usize),
 }
 
-// A case byte, or the count of a Vec.
+// A case byte, the count of a Vec, or the kind of a text.
 pub enum ReadByte {
     At(u8, usize),
     Refused(u8, usize),

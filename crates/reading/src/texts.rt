@@ -13,13 +13,13 @@ ghost use mathlib.Core.Path.{_≡_};
 ghost use Prim.Native.Nat.{_≤_, _<_, _-_};
 ghost use mathlib.Core.Bool.{_||_};
 ghost use lib.Dec.{eqb};
-ghost use mathlib.Core.List.{[], map};
+ghost use mathlib.Core.List.{map};
 ghost use lib.ListN.{length, take, drop};
 ghost use Rattle.text.specs.Text.{same};
-ghost use Rattle.tree.specs.Texts.{between, every, allowed, among, text, isName, isFloat, isPath, textAt, past};
+ghost use Rattle.tree.specs.Texts.{between, every, allowed, among, isName, isFloat, isPath, textAt, past};
 ghost use Rattle.tree.specs.Exprs.{textNumber};
-ghost use Rattle.reading.specs.Answers.{forget, gaveNumber, gaveText};
-ghost use Rattle.reading.specs.Section.{textsFrom, pastTexts, textCount, ofKind, kindsOf, checksum, hasSum, slotOf, Gathered};
+ghost use Rattle.reading.specs.Answers.{forget, gaveByte, gaveNumber, gaveText};
+ghost use Rattle.reading.specs.Section.{textsFrom, pastTexts, textCount, ofKind, kindRead, kindsOf, checksum, hasSum, slotOf, Gathered};
 ghost use Rattle.tree.specs.Ans.{ok};
 ghost use Rattle.tree.specs.Decode.{textsOf};
 
@@ -164,26 +164,34 @@ fn is_repeated(s: &[u8], x: &[u8], sum: u64, n: usize, sums: &[u64]) -> bool
     false
 }
 
-// A text. Whether an earlier one is equal is not asked.
-fn read_text(s: &[u8], at: usize) -> Read
-    ensures { λ r. ⌜ r ≡ forget (text [] (now (s .entry)) at) ⌝ }
+// A text, of which the kind is told. Whether an earlier one is equal is not asked.
+fn read_text(s: &[u8], at: usize) -> ReadByte
+    ensures { λ r. ⌜ r ≡ gaveByte (kindRead (now (s .entry)) at) ⌝ }
 {
     let a = read_byte(s, at);
     let ReadByte::At(length, start) = a else {
-        return a.into_read();
+        return a;
     };
     if length == 0 {
-        return Read::Refused(4, at);
+        return ReadByte::Refused(4, at);
     }
     if TEXT_LIMIT < length {
-        return Read::Refused(4, at);
+        return ReadByte::Refused(4, at);
     }
     let width = wide(length);
     if bytes_from(s, start) < width {
-        return Read::Refused(3, s.len());
+        return ReadByte::Refused(3, s.len());
     }
     let end = start + width;
-    read_allowed(s, start, end)
+    let kind = spelling::kind(&s[start..end]);
+    if kind == spelling::NAME {
+        return ReadByte::At(kind, end); // the bytes of a name are allowed
+    }
+    let b = read_allowed(s, start, end);
+    match b {
+        Read::At(next) => ReadByte::At(kind, next),
+        Read::Refused(number, place) => ReadByte::Refused(number, place),
+    }
 }
 
 // How many texts there are.
@@ -212,8 +220,8 @@ pub fn read_texts(s: &[u8], first: usize, n: usize, kinds: &mut [u8; TEXTS_LIMIT
     let mut i = 0;
     while i < n {
         let a = read_text(s, k);
-        let Read::At(next) = a else {
-            return a;
+        let ReadByte::At(kind, next) = a else {
+            return a.into_read();
         };
         let x = &s[k + 1..next];
         let sum = spelling::checksum(x);
@@ -224,7 +232,7 @@ pub fn read_texts(s: &[u8], first: usize, n: usize, kinds: &mut [u8; TEXTS_LIMIT
             }
         }
         met[slot] = 1;
-        kinds[i] = spelling::kind(x);
+        kinds[i] = kind;
         sums[i] = sum;
         k = next;
         i += 1;

@@ -19,11 +19,12 @@ read-texts-spec =
     (λ c κs. search needs)  -- read-text-requires
     (λ c. search needs)  -- enum-known-a
     (λ c. search needs)  -- enum-told
+    (λ c κs. search needs)  -- into-read-requires
     (λ c. search gathering)  -- returns
-    (λ c. let h = text-inside _ _ _ _ (c .before .before .before .read-text .ensures) (c .before .a .given .1) in search needs)  -- add-x
-    (λ c. let h = text-inside _ _ _ _ (c .before .before .before .read-text .ensures) (c .before .a .given .1) in search needs)  -- sub-x
-    (λ c. let h = text-inside _ _ _ _ (c .before .before .before .read-text .ensures) (c .before .a .given .1) in search needs)  -- part-x-start
-    (λ c. let h = text-inside _ _ _ _ (c .before .before .before .read-text .ensures) (c .before .a .given .1) in search needs)  -- part-x-end
+    (λ c. let h = text-inside _ _ _ _ _ (c .before .before .before .read-text .ensures) (c .before .a .given .1) in search needs)  -- add-x
+    (λ c. let h = text-inside _ _ _ _ _ (c .before .before .before .read-text .ensures) (c .before .a .given .1) in search needs)  -- sub-x
+    (λ c. let h = text-inside _ _ _ _ _ (c .before .before .before .read-text .ensures) (c .before .a .given .1) in search needs)  -- part-x-start
+    (λ c. let h = text-inside _ _ _ _ _ (c .before .before .before .read-text .ensures) (c .before .a .given .1) in search needs)  -- part-x-end
     (λ c κs. search needs)  -- checksum-requires
     (λ c κs. search needs)  -- slot-of-requires
     (λ c. search (gathering, needs))  -- array-read-if1
@@ -32,11 +33,10 @@ read-texts-spec =
     (λ c κs. (search needs, (search (going-few, needs), (search (going-within, needs), search needs))))  -- is-repeated-requires
     (λ c. search gathering)  -- returns-2
     (λ c. search (gathering, needs))  -- array-write-met
-    (λ c κs. search needs)  -- kind-requires
     (λ c. search needs)  -- element-write-kinds
     (λ c. search needs)  -- mul-sums
     (λ c. search needs)  -- array-write-sums
     (λ c. search needs)  -- add-i
     (λ c. search needs)  -- loop-less
-    (λ c. ⊎-elim (λ w. search gathering) (λ w. search gathering) (c .before .if1 .came))  -- loop-again
+    (λ c. ⊎-elim (λ w. search gathering) (λ w. search gathering) (c .if1 .came))  -- loop-again
     (λ c. search gathering))  -- returns-3
