@@ -3,7 +3,7 @@ use crate::numbers::size;
 ghost use mathlib.Core.Path.{_≡_};
 ghost use Rattle.reading.specs.Answers.{forget, gaveText, byteAnswer, numberAnswer, textAnswer};
 
-// Of a list or a tree the place alone: there is nothing to hold it.
+// Of a list or a tree the place alone: there is nothing to hold it. Of a span too: its numbers are not asked for.
 pub enum Read {
     At(usize),
     Refused(u8, usize),
