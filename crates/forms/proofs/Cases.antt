@@ -15,7 +15,6 @@ use Rattle.reading.specs.Answers.{forget, gaveByte, byteAnswer}
 use Rattle.reading.specs.declared.answers.Read.{Read}
 use Rattle.reading.specs.declared.answers.Read.the-variants.{Refused}
 use Rattle.reading.specs.declared.answers.ReadByte.{ReadByte}
-use Rattle.reading.proofs.Taken.{span-left}
 use Rattle.reading.proofs.Runs.{skip, runs-last}
 use Rattle.reading.proofs.Values.{case-below, choice-refused, choice-read}
 use Rattle.reading.proofs.Levels.{level-refused, level-over, level-arm}
@@ -51,7 +50,7 @@ module _ (t : List Text) (s : List ℕ) (at : ℕ) (a : ReadByte) (read : a ≡ 
     pub pow-arm : (b ≡ 0 → ⊥) → (b ≡ 1 → ⊥) → (b ≡ 2 → ⊥) → r ≡ forget (pow t s k) → r ≡ forget (modifier t s at)
     pow-arm n0 n1 n2 = modifier-arm 3 (omega (arith, case-below s at 4 a read b k g))
 
-pub ruleset modifiers = (modifier-refused, ctrl-arm, neg-ctrl-arm, inv-arm, pow-arm, span-left)
+pub ruleset modifiers = (modifier-refused, ctrl-arm, neg-ctrl-arm, inv-arm, pow-arm)
 
 -- expressions
 module _ (t : List Text) (left : ℕ) (s : List ℕ) (at : ℕ) (a : ReadByte) (read : a ≡ gaveByte (caseByte 10 s at)) where

@@ -4,9 +4,9 @@ use reading::answers::ReadByte;
 use reading::answers::ReadNumber;
 use reading::answers::ReadText;
 use reading::numbers::FLAGS;
+use reading::numbers::pass_span;
 use reading::numbers::read_case;
 use reading::numbers::read_count;
-use reading::numbers::read_span;
 use reading::numbers::read_u64;
 use reading::texts::read_float;
 use reading::texts::read_name;
@@ -35,7 +35,7 @@ fn read_int_lit(s: &[u8], at: usize) -> Read
     let ReadNumber::At(_, k) = a else {
         return a.into_read();
     };
-    read_span(s, k).into_read()
+    pass_span(s, k)
 }
 
 fn read_float_lit(s: &[u8], kinds: &[u8], at: usize) -> Read
@@ -46,7 +46,7 @@ fn read_float_lit(s: &[u8], kinds: &[u8], at: usize) -> Read
     let ReadText::At(_, k) = a else {
         return a.into_read();
     };
-    read_span(s, k).into_read()
+    pass_span(s, k)
 }
 
 fn read_bool_lit(s: &[u8], at: usize) -> Read
@@ -56,7 +56,7 @@ fn read_bool_lit(s: &[u8], at: usize) -> Read
     let ReadByte::At(_, k) = a else {
         return a.into_read();
     };
-    read_span(s, k).into_read()
+    pass_span(s, k)
 }
 
 fn read_ident(s: &[u8], kinds: &[u8], at: usize) -> Read
@@ -67,7 +67,7 @@ fn read_ident(s: &[u8], kinds: &[u8], at: usize) -> Read
     let ReadText::At(_, k) = a else {
         return a.into_read();
     };
-    read_span(s, k).into_read()
+    pass_span(s, k)
 }
 
 fn read_index(s: &[u8], kinds: &[u8], at: usize) -> Read
@@ -82,7 +82,7 @@ fn read_index(s: &[u8], kinds: &[u8], at: usize) -> Read
     let ReadNumber::At(_, l) = b else {
         return b.into_read();
     };
-    read_span(s, l).into_read()
+    pass_span(s, l)
 }
 
 fn read_const(s: &[u8], at: usize) -> Read
@@ -92,7 +92,7 @@ fn read_const(s: &[u8], at: usize) -> Read
     let ReadByte::At(_, k) = a else {
         return a.into_read();
     };
-    read_span(s, k).into_read()
+    pass_span(s, k)
 }
 
 fn read_call(s: &[u8], kinds: &[u8], at: usize, left: usize) -> Read
@@ -107,7 +107,7 @@ fn read_call(s: &[u8], kinds: &[u8], at: usize, left: usize) -> Read
     let Read::At(l) = b else {
         return b;
     };
-    read_span(s, l).into_read()
+    pass_span(s, l)
 }
 
 fn read_neg(s: &[u8], kinds: &[u8], at: usize, left: usize) -> Read
@@ -118,7 +118,7 @@ fn read_neg(s: &[u8], kinds: &[u8], at: usize, left: usize) -> Read
     let Read::At(k) = a else {
         return a;
     };
-    read_span(s, k).into_read()
+    pass_span(s, k)
 }
 
 // How many operators there are behind this case byte, of an operation or a comparison.
@@ -145,7 +145,7 @@ fn read_pair(s: &[u8], kinds: &[u8], at: usize, left: usize, ops: u8) -> Read
     let Read::At(m) = c else {
         return c;
     };
-    read_span(s, m).into_read()
+    pass_span(s, m)
 }
 
 // Expressions behind their count.

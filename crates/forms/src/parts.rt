@@ -5,11 +5,11 @@ use reading::answers::Read;
 use reading::answers::ReadByte;
 use reading::answers::ReadText;
 use reading::numbers::FLAGS;
+use reading::numbers::pass_span;
 use reading::numbers::read_case;
 use reading::numbers::read_count;
 use reading::numbers::read_optional_slice;
 use reading::numbers::read_optional_u64;
-use reading::numbers::read_span;
 use reading::texts::read_name;
 ghost use mathlib.Core.Path.{_≡_};
 ghost use Rattle.tree.specs.Read.{caseByte, option, vec};
@@ -41,7 +41,7 @@ pub(crate) fn read_operand(s: &[u8], kinds: &[u8], at: usize) -> Read
     let Read::At(m) = c else {
         return c;
     };
-    read_span(s, m).into_read()
+    pass_span(s, m)
 }
 
 pub(crate) fn read_optional_operand(s: &[u8], kinds: &[u8], at: usize) -> Read
@@ -87,7 +87,7 @@ fn read_ctrl(s: &[u8], kinds: &[u8], at: usize) -> Read
     let Read::At(k) = a else {
         return a;
     };
-    read_span(s, k).into_read()
+    pass_span(s, k)
 }
 
 fn read_pow(s: &[u8], kinds: &[u8], at: usize) -> Read
@@ -98,7 +98,7 @@ fn read_pow(s: &[u8], kinds: &[u8], at: usize) -> Read
     let Read::At(k) = a else {
         return a;
     };
-    read_span(s, k).into_read()
+    pass_span(s, k)
 }
 
 fn read_modifier(s: &[u8], kinds: &[u8], at: usize) -> Read
@@ -112,7 +112,7 @@ fn read_modifier(s: &[u8], kinds: &[u8], at: usize) -> Read
     match b {
         0 => read_ctrl(s, kinds, k),
         1 => read_ctrl(s, kinds, k),
-        2 => read_span(s, k).into_read(),
+        2 => pass_span(s, k),
         _ => read_pow(s, kinds, k),
     }
 }

@@ -12,9 +12,9 @@ use crate::parts::read_type;
 use reading::answers::Read;
 use reading::answers::ReadByte;
 use reading::answers::ReadText;
+use reading::numbers::pass_span;
 use reading::numbers::read_case;
 use reading::numbers::read_optional_u64;
-use reading::numbers::read_span;
 use reading::texts::read_name;
 use reading::texts::read_path;
 ghost use mathlib.Core.Path.{_≡_};
@@ -36,7 +36,7 @@ pub fn read_include(s: &[u8], kinds: &[u8], at: usize) -> Read
     let ReadText::At(_, k) = a else {
         return a.into_read();
     };
-    read_span(s, k).into_read()
+    pass_span(s, k)
 }
 
 // A declaration of qubits or of bits: both have the same fields.
@@ -53,7 +53,7 @@ pub fn read_register(s: &[u8], kinds: &[u8], at: usize) -> Read
     let Read::At(l) = b else {
         return b;
     };
-    read_span(s, l).into_read()
+    pass_span(s, l)
 }
 
 pub fn read_classical_decl(s: &[u8], kinds: &[u8], at: usize) -> Read
@@ -77,7 +77,7 @@ pub fn read_classical_decl(s: &[u8], kinds: &[u8], at: usize) -> Read
     let Read::At(n) = d else {
         return d;
     };
-    read_span(s, n).into_read()
+    pass_span(s, n)
 }
 
 pub fn read_assignment(s: &[u8], kinds: &[u8], at: usize) -> Read
@@ -97,7 +97,7 @@ pub fn read_assignment(s: &[u8], kinds: &[u8], at: usize) -> Read
     let Read::At(m) = c else {
         return c;
     };
-    read_span(s, m).into_read()
+    pass_span(s, m)
 }
 
 pub fn read_gate_call(s: &[u8], kinds: &[u8], at: usize) -> Read
@@ -121,7 +121,7 @@ pub fn read_gate_call(s: &[u8], kinds: &[u8], at: usize) -> Read
     let Read::At(n) = d else {
         return d;
     };
-    read_span(s, n).into_read()
+    pass_span(s, n)
 }
 
 pub fn read_function_def(s: &[u8], kinds: &[u8], at: usize) -> Read
@@ -145,7 +145,7 @@ pub fn read_function_def(s: &[u8], kinds: &[u8], at: usize) -> Read
     let Read::At(n) = d else {
         return d;
     };
-    read_span(s, n).into_read()
+    pass_span(s, n)
 }
 
 pub fn read_measure(s: &[u8], kinds: &[u8], at: usize) -> Read
@@ -161,7 +161,7 @@ pub fn read_measure(s: &[u8], kinds: &[u8], at: usize) -> Read
     let Read::At(l) = b else {
         return b;
     };
-    read_span(s, l).into_read()
+    pass_span(s, l)
 }
 
 pub fn read_reset(s: &[u8], kinds: &[u8], at: usize) -> Read
@@ -173,7 +173,7 @@ pub fn read_reset(s: &[u8], kinds: &[u8], at: usize) -> Read
     let Read::At(k) = a else {
         return a;
     };
-    read_span(s, k).into_read()
+    pass_span(s, k)
 }
 
 pub fn read_barrier(s: &[u8], kinds: &[u8], at: usize) -> Read
@@ -185,7 +185,7 @@ pub fn read_barrier(s: &[u8], kinds: &[u8], at: usize) -> Read
     let Read::At(k) = a else {
         return a;
     };
-    read_span(s, k).into_read()
+    pass_span(s, k)
 }
 
 pub fn read_delay(s: &[u8], kinds: &[u8], at: usize) -> Read
@@ -201,5 +201,5 @@ pub fn read_delay(s: &[u8], kinds: &[u8], at: usize) -> Read
     let Read::At(l) = b else {
         return b;
     };
-    read_span(s, l).into_read()
+    pass_span(s, l)
 }

@@ -9,8 +9,8 @@ use reading::answers::ReadByte;
 use reading::answers::ReadNumber;
 use reading::answers::ReadText;
 use reading::numbers::FLAGS;
+use reading::numbers::pass_span;
 use reading::numbers::read_case;
-use reading::numbers::read_span;
 use reading::numbers::read_u16;
 use reading::texts::read_name;
 ghost use mathlib.Core.Path.{_≡_};
@@ -44,7 +44,7 @@ fn read_gate_def(s: &[u8], kinds: &[u8], at: usize, left: usize) -> Read
     let Read::At(n) = d else {
         return d;
     };
-    read_span(s, n).into_read()
+    pass_span(s, n)
 }
 
 fn read_if(s: &[u8], kinds: &[u8], at: usize, left: usize) -> Read
@@ -64,7 +64,7 @@ fn read_if(s: &[u8], kinds: &[u8], at: usize, left: usize) -> Read
     let Read::At(m) = c else {
         return c;
     };
-    read_span(s, m).into_read()
+    pass_span(s, m)
 }
 
 fn read_for(s: &[u8], kinds: &[u8], at: usize, left: usize) -> Read
@@ -88,7 +88,7 @@ fn read_for(s: &[u8], kinds: &[u8], at: usize, left: usize) -> Read
     let Read::At(n) = d else {
         return d;
     };
-    read_span(s, n).into_read()
+    pass_span(s, n)
 }
 
 fn read_while(s: &[u8], kinds: &[u8], at: usize, left: usize) -> Read
@@ -104,7 +104,7 @@ fn read_while(s: &[u8], kinds: &[u8], at: usize, left: usize) -> Read
     let Read::At(l) = b else {
         return b;
     };
-    read_span(s, l).into_read()
+    pass_span(s, l)
 }
 
 // A statement with so many levels left.

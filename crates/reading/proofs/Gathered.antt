@@ -4,10 +4,11 @@ use mathlib.Core.Path.{_≡_, refl, sym, ap, _∙_}
 use mathlib.Core.List.{List, [], _∷_, _++_, map, map-append}
 use mathlib.Core.Bool.{Bool, true, false, not}
 use mathlib.Core.Logic.{_⊎_, inl, inr}
+use native.Mathlib.Decide.{ℕ-discrete}
 use native.Mathlib.Omega.{arith}
 use native.Mathlib.Numerals.{add-one}
 use lib.ListN.{length, getD, take, drop, set, length-set, length-take}
-use lib.Seq.{take-suc-set}
+use lib.Seq.{take-suc-set, getD-set-same, getD-set-other}
 use lib.Dec.{leb}
 use borrow.Author.Tests.{le-leb, lt-leb}
 use Rattle.tree.specs.AnsLaws.{never-ok}
@@ -17,16 +18,24 @@ use Rattle.tree.specs.Ans.{ok, refused, bind, _>>=_, _>>_, done, here, refuse, 
 use Rattle.tree.specs.Read.{number}
 use Rattle.tree.specs.Texts.{allowed, among, text, moreTexts, texts, textAt, past}
 use Rattle.tree.proofs.Steps.{byte-in, byte-end, number-in, number-end}
-use Rattle.reading.specs.Answers.{forget, gaveNumber}
-use Rattle.reading.specs.Section.{textsFrom, pastTexts, textCount, kindOf, kindsOf, checksum, Gathered}
+use Rattle.reading.specs.Answers.{forget, gaveByte, gaveNumber, byteAnswer}
+use Rattle.reading.specs.Section.{textsFrom, pastTexts, textCount, kindOf, kindRead, kindsOf, checksum, hasSum, slotOf, Gathered}
 use Rattle.tree.specs.Decode.{textsOf}
 use Rattle.reading.specs.declared.answers.Read.{Read}
 use Rattle.reading.specs.declared.answers.Read.the-variants.{At, Refused}
+use Rattle.reading.specs.declared.answers.ReadByte.{ReadByte}
 use Rattle.reading.specs.declared.answers.ReadNumber.{ReadNumber}
-use Rattle.reading.proofs.Taken.{taken-ok, taken-not, numberKind}
+use Rattle.reading.proofs.Taken.{taken-ok, taken-not, taken-left, taken-refused, byteKind, numberKind}
 use Rattle.text.proofs.Order.{le-or-lt}
+use Rattle.reading.proofs.Runs.{skip, one, runs-last}
 use Rattle.reading.proofs.Values.{not-both, bind-refused, bind-into}
+use Rattle.reading.proofs.Repeated.{no-sum, sum-last}
 use Rattle.reading.proofs.Section.{Judged, bytes-judged, text-part, empty-is, long-is, cut-is, whole-is, text-after}
+
+-- a text's kind is refused as the text is
+kind-left : (s : List ℕ) (at : ℕ) → forget (kindRead s at) ≡ forget (text [] s at)
+unfolding kindRead
+kind-left s at = one (text []) kindOf s at ∙ sym (runs-last (skip (text [])) s at _ refl)
 
 -- one text more from a place on
 texts-more : (s : List ℕ) (i at : ℕ) → textsFrom s (suc i) at ≡ textsFrom s i at ++ (textAt s (pastTexts s i at) ∷ [])
@@ -40,10 +49,10 @@ past-more s zero at = refl
 past-more s (suc i) at = past-more s i (past s at)
 
 -- a text that was read
-module _ (s : List ℕ) (at : ℕ) (r : Read) (next : ℕ) (read : r ≡ forget (text [] s at)) (g : r ≡ At next) where
+module _ (s : List ℕ) (at : ℕ) (a : ReadByte) (v next : ℕ) (read : a ≡ gaveByte (kindRead s at)) (g : a ≡ ReadByte.At v next) where
   not-refused : (m p : ℕ) → text [] s at ≡ refused m p → ⊥
-  unfolding forget
-  not-refused m p e = not-both g (read ∙ ap forget e)
+  unfolding kindRead _>>=_ bind
+  not-refused m p e = never-ok {number = m} {place = p} (taken-ok byteKind a (kindRead s at) read v next g) (rw e)
 
   text-told : (length s ≤ at) ⊎ (at < length s) → (getD s at 0 ≤ 0) ⊎ (0 < getD s at 0) → (getD s at 0 ≤ textLimit) ⊎ (textLimit < getD s at 0) → (past s at ≤ length s) ⊎ (length s < past s at)
       → (text [] s at ≡ ok (textAt s at) (past s at)) × (past s at ≤ length s)
@@ -64,9 +73,15 @@ module _ (s : List ℕ) (at : ℕ) (r : Read) (next : ℕ) (read : r ≡ forget 
   told : (text [] s at ≡ ok (textAt s at) (past s at)) × (past s at ≤ length s)
   told = text-told (le-or-lt _ _) (le-or-lt _ _) (le-or-lt _ _) (le-or-lt _ _)
 
+  kind-told : ok v next ≡ ok (kindOf (textAt s at)) (past s at)
+  unfolding kindRead done _>>=_ bind
+  kind-told = sym (taken-ok byteKind a (kindRead s at) read v next g) ∙ rw (told .0) refl
+
   text-next : next ≡ past s at
-  unfolding forget
-  text-next = let z : At (past s at) ≡ At next = sym (ap forget (told .0)) ∙ sym read ∙ g in cc
+  text-next = let z = kind-told in cc
+
+  text-kind : v ≡ kindOf (textAt s at)
+  text-kind = let z = kind-told in cc
 
   text-read : text [] s at ≡ ok (textAt s at) next
   text-read = rw text-next (told .0)
@@ -120,8 +135,19 @@ module _ (s : List ℕ) (n k : ℕ) (counted : textCount s 0 ≡ ok n k) where
 gathered-none : (s kinds : List ℕ) (n : ℕ) (r : Read) (m p : ℕ) → r ≡ Refused m p → length kinds ≡ 256 → r ≡ forget (texts s 0) → Gathered s kinds n r
 gathered-none s kinds n r m p g l e = record { answer = e; stored = λ k h. absurd (not-both h g); long = l }
 
+-- a table that tells which slots were met: a checksum whose slot was not met is not among those that it tells of
+abbrev pub Met : List ℕ → List ℕ → Type 0
+Met met sums = (x : ℕ) → getD met (slotOf x) 0 ≡ 0 → hasSum x sums ≡ false
+
+met-more : (met sums : List ℕ) (w slot : ℕ) → slot ≡ slotOf w → slot < length met → Met met sums → Met (set met slot 1) (sums ++ (w ∷ []))
+met-more met sums w slot e l told x z = go (ℕ-discrete (slotOf x) slot)
+  where
+    go : Dec (slotOf x ≡ slot) → hasSum x (sums ++ (w ∷ [])) ≡ false
+    go (yes f) = absurd (let y : 1 ≡ 0 = sym (getD-set-same met slot 1 0 l) ∙ (rw f at z) in omega arith)
+    go (no f) = sum-last x w sums (λ g. f (rw g (sym e))) (told x (sym (getD-set-other met slot (slotOf x) 1 0 f) ∙ z))
+
 -- while texts are read: `i` of `n` stand before `k`
-pub record Going (s kinds sums : List ℕ) (n i k : ℕ) : Type 0 where
+pub record Going (s kinds sums met : List ℕ) (n i k : ℕ) : Type 0 where
   pub done-few : i ≤ n
   pub few : n ≤ textsLimit
   pub place : pastTexts s i 2 ≡ k
@@ -130,10 +156,12 @@ pub record Going (s kinds sums : List ℕ) (n i k : ℕ) : Type 0 where
   pub long : length kinds ≡ 256
   pub summed : take i sums ≡ map checksum (textsFrom s i 2)
   pub room : length sums ≡ 256
+  pub known : Met met (take i sums)
+  pub slots : length met ≡ 1024
 
-pub going-start : (s : List ℕ) (k n : ℕ) (kinds sums : List ℕ) → textCount s 0 ≡ ok n k → length kinds ≡ 256 → length sums ≡ 256 → Going s kinds sums n 0 k
-unfolding bind pastTexts textsFrom
-going-start s k n kinds sums counted long room = record {
+pub going-start : (s : List ℕ) (k n : ℕ) (kinds sums met : List ℕ) → textCount s 0 ≡ ok n k → length kinds ≡ 256 → length sums ≡ 256 → length met ≡ 1024 → Going s kinds sums met n 0 k
+unfolding bind pastTexts textsFrom hasSum
+going-start s k n kinds sums met counted long room slots = record {
   done-few = omega arith;
   few = count-few s n k counted;
   place = sym (count-next s n k counted);
@@ -142,9 +170,11 @@ going-start s k n kinds sums counted long room = record {
   long = long;
   summed = refl;
   room = room;
+  known = λ x z. refl;
+  slots = slots;
 }
 
-module _ (s kinds sums : List ℕ) (n i k : ℕ) (going : Going s kinds sums n i k) where
+module _ (s kinds sums met : List ℕ) (n i k : ℕ) (going : Going s kinds sums met n i k) where
   -- the checksums of the earlier texts
   pub going-few : i ≤ 256
   going-few = omega (arith, going .few, going .done-few)
@@ -159,41 +189,50 @@ module _ (s kinds sums : List ℕ) (n i k : ℕ) (going : Going s kinds sums n i
   unfolding moreTexts _>>=_
   remain-more h = going .remain ∙ rw (left h) refl
 
-  module _ (h : i < n) (b : Read) (e : b ≡ forget (text [] s k)) where
-    pub going-refused : (m p : ℕ) → b ≡ Refused m p → Gathered s kinds n b
-    going-refused m p g = gathered-none s kinds n b m p g (going .long) (rw (remain-more h) (bind-refused _ _ b m p (rw (text-after (textsFrom s i 2) s k) (bind-refused _ _ b m p e g)) g))
+  module _ (h : i < n) (a : ReadByte) (e : a ≡ gaveByte (kindRead s k)) where
+    pub going-refused : (m p : ℕ) → a ≡ ReadByte.Refused m p → (b : Read) → b ≡ forget (byteAnswer a) → Gathered s kinds n b
+    going-refused m p g b f =
+        let z : b ≡ Refused m p = taken-refused byteKind a m p g b f in
+        let y : b ≡ forget (text [] s k) = taken-left byteKind a (kindRead s k) e b f ∙ kind-left s k in
+        gathered-none s kinds n b m p z (going .long) (rw (remain-more h) (bind-refused _ _ b m p (rw (text-after (textsFrom s i 2) s k) (bind-refused _ _ b m p y z)) z))
 
-    module _ (next : ℕ) (g : b ≡ At next) where
+    module _ (v next : ℕ) (g : a ≡ ReadByte.At v next) where
       pub going-within : pastTexts s i 2 ≤ length s
-      going-within = omega (arith, going .place, text-inside s k b next e g)
+      going-within = omega (arith, going .place, text-inside s k a v next e g)
 
       part-is : take (next - (k + 1)) (drop (k + 1) s) ≡ textAt s k
-      part-is = text-part s k next (text-next s k b next e g)
+      part-is = text-part s k next (text-next s k a v next e g)
 
       module _ (r : Bool) (known : r ≡ among (take (next - (k + 1)) (drop (k + 1) s)) (textsFrom s i 2)) where
         text-is : text (textsFrom s i 2) s k ≡ _>>_ (check (not r) 4 k) (done (textAt s k)) s next
         unfolding bind
-        text-is = text-after (textsFrom s i 2) s k ∙ rw (text-read s k b next e g, rw part-is at known) refl
+        text-is = text-after (textsFrom s i 2) s k ∙ rw (text-read s k a v next e g, rw part-is at known) refl
 
         pub going-again : r ≡ true → Gathered s kinds n (Refused 4 k)
         unfolding check refuse _>>_ bind forget
         going-again t = gathered-none s kinds n (Refused 4 k) 4 k refl (going .long) (rw (remain-more h, text-is, t))
 
-        pub going-more : r ≡ false → (v w : ℕ) → v ≡ kindOf (take (next - (k + 1)) (drop (k + 1) s)) → w ≡ checksum (take (next - (k + 1)) (drop (k + 1) s)) → Going s (set kinds i v) (set sums i w) n (i + 1) next
+        pub going-more : r ≡ false → (w slot : ℕ) → w ≡ checksum (take (next - (k + 1)) (drop (k + 1) s)) → slot ≡ slotOf w → slot < 1024 → Going s (set kinds i v) (set sums i w) (set met slot 1) n (i + 1) next
         unfolding check done _>>_ bind
-        going-more t v w f u =
+        going-more t w slot u o p =
             let l : i < length kinds = omega (arith, going .long, going .few) in
             let m : i < length sums = omega (arith, going .room, going .few) in
             record {
               done-few = omega arith;
               few = going .few;
-              place = rw add-one (past-more s i 2 ∙ rw (going .place) (sym (text-next s k b next e g)));
+              place = rw add-one (past-more s i 2 ∙ rw (going .place) (sym (text-next s k a v next e g)));
               remain = remain-more h ∙ rw (text-is, t, add-one, texts-more s i 2, going .place) refl;
-              kept = rw (add-one, take-suc-set kinds i v l, texts-more s i 2, map-append, going .kept, going .place, f, part-is) refl;
+              kept = rw (add-one, take-suc-set kinds i v l, texts-more s i 2, map-append, going .kept, going .place, text-kind s k a v next e g) refl;
               long = length-set kinds i v ∙ going .long;
               summed = rw (add-one, take-suc-set sums i w m, texts-more s i 2, map-append, going .summed, going .place, u, part-is) refl;
               room = length-set sums i w ∙ going .room;
+              known = rw (add-one, take-suc-set sums i w m) (met-more met (take i sums) w slot o (omega (arith, going .slots)) (going .known));
+              slots = length-set met slot 1 ∙ going .slots;
             }
+
+      -- where the slot was not met, no other is asked
+      pub going-new : (w slot : ℕ) → w ≡ checksum (take (next - (k + 1)) (drop (k + 1) s)) → slot ≡ slotOf w → slot < 1024 → getD met slot 0 ≡ 0 → Going s (set kinds i v) (set sums i w) (set met slot 1) n (i + 1) next
+      going-new w slot u o p z = going-more false (no-sum _ (textsFrom s i 2) (rw (sym (going .summed), sym u) (going .known w (rw (sym o) z)))) refl w slot u o p
 
   pub going-end : n ≤ i → Gathered s kinds n (At k)
   unfolding moreTexts done forget textsOf given kindsOf
@@ -203,4 +242,4 @@ module _ (s kinds sums : List ℕ) (n i k : ℕ) (going : Going s kinds sums n i
       let t : texts s 0 ≡ ok (textsFrom s i 2) k = going .remain ∙ rw z refl in
       record { answer = rw t; stored = λ m g. rw (t, sym j) (going .kept); long = going .long }
 
-pub ruleset gathering = (going-start, going-few, going-part, going-refused, going-within, going-again, going-more, going-end)
+pub ruleset gathering = (going-start, going-few, going-part, going-refused, going-within, going-again, going-more, going-new, going-end)

@@ -22,7 +22,7 @@ use Rattle.reading.specs.declared.answers.ReadText.{ReadText}
 use Rattle.reading.proofs.Taken.{back-gave, taken-ok, taken-not, numberKind, textKind}
 use Rattle.text.proofs.Order.{le-or-lt}
 use Rattle.reading.proofs.Values.{bind-into}
-use Rattle.reading.proofs.Spelled.{letter-below}
+use Rattle.reading.proofs.Spelled.{letter-below, name-kind}
 
 -- the tests on a number
 abbrev judged : List Text → (Text → Bool) → ℕ → List ℕ → ℕ → ℕ → Ans ℕ
@@ -106,12 +106,6 @@ module _ (s kinds : List ℕ) (known : kinds ≡ kindsOf s) where
 pub ruleset text-numbers = (path-refused, path-far, path-read, path-near, spelled-refused, spelled-read, spelled-other)
 
 -- a kind says the spelling
-name-kind : (a b : Bool) → eqb (kindBy a b) 1 ≡ a
-unfolding kindBy
-name-kind true b = refl
-name-kind false true = refl
-name-kind false false = refl
-
 float-kind : (a b : Bool) → (a ≡ true → b ≡ false) → eqb (kindBy a b) 2 ≡ b
 unfolding kindBy
 float-kind true b h = sym (h refl)

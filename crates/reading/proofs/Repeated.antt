@@ -1,7 +1,7 @@
 -- Whether a text is among the earlier ones: a law for each way out of the code. Assumes nothing.
 use Prim.Native.Nat.{ℕ, zero, suc, _<_, _≤_, _+_, _-_}
 use mathlib.Core.Path.{_≡_, refl, sym, ap, subst, _∙_}
-use mathlib.Core.List.{List, [], _∷_, map}
+use mathlib.Core.List.{List, [], _∷_, _++_, map}
 use mathlib.Core.Bool.{Bool, true, false, not, _&&_, _||_, or-false}
 use native.Mathlib.Omega.{arith}
 use native.Mathlib.Numerals.{add-one, sub-one}
@@ -29,7 +29,7 @@ pub text-other : (x y : Text) (sum other : ℕ) → sum ≡ checksum x → other
 text-other x y sum other e f d = texts-differ checksum x y (λ g. d (e ∙ g ∙ sym f))
 
 -- a text whose checksum is among no others is not among their texts
-no-sum : (x : Text) (ts : List Text) → hasSum (checksum x) (map checksum ts) ≡ false → false ≡ among x ts
+pub no-sum : (x : Text) (ts : List Text) → hasSum (checksum x) (map checksum ts) ≡ false → false ≡ among x ts
 unfolding hasSum among
 no-sum x [] e = refl
 no-sum x (t ∷ ts) e = go (eqb (checksum x) (checksum t)) refl (no-sum x ts) e
@@ -37,6 +37,16 @@ no-sum x (t ∷ ts) e = go (eqb (checksum x) (checksum t)) refl (no-sum x ts) e
     go : (b : Bool) → eqb (checksum x) (checksum t) ≡ b → (hasSum (checksum x) (map checksum ts) ≡ false → false ≡ among x ts) → (b || hasSum (checksum x) (map checksum ts)) ≡ false → false ≡ (same x t || among x ts)
     go true f rest h = absurd (subst T h tt)
     go false f rest h = rw (← text-other x t (checksum x) (checksum t) refl refl (eqb-false (checksum x) (checksum t) f)) (rest h)
+
+-- one checksum more
+pub sum-last : (x y : ℕ) (sums : List ℕ) → (x ≡ y → ⊥) → hasSum x sums ≡ false → hasSum x (sums ++ (y ∷ [])) ≡ false
+unfolding hasSum
+sum-last x y [] d h = rw (ne-eqb x y d)
+sum-last x y (z ∷ sums) d h = go (eqb x z) (sum-last x y sums d) h
+  where
+    go : (b : Bool) → (hasSum x sums ≡ false → hasSum x (sums ++ (y ∷ [])) ≡ false) → (b || hasSum x sums) ≡ false → (b || hasSum x (sums ++ (y ∷ []))) ≡ false
+    go true rest h = absurd (subst T h tt)
+    go false rest h = rest h
 
 pub not-repeated : (s : List ℕ) (x : Text) (n : ℕ) (sums : List ℕ) (sum : ℕ) → sums ≡ map checksum (textsFrom s n 2) → sum ≡ checksum x → (r : Bool) → r ≡ hasSum sum sums → not r ≡ true → false ≡ among x (textsFrom s n 2)
 not-repeated s x n sums sum e f r g h = no-sum x (textsFrom s n 2) (rw (← e, ← f) (sym g ∙ not-true r h))

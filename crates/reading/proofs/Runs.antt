@@ -7,7 +7,7 @@ use Rattle.tree.specs.Ans.{Ans, ok, refused, Reader, bind, _>>=_, done}
 use Rattle.reading.specs.Answers.{forget}
 use Rattle.reading.specs.declared.answers.Read.{Read}
 use Rattle.reading.specs.declared.answers.Read.the-variants.{At, Refused}
-use Rattle.reading.proofs.Taken.{Kind, taken-refused, taken-left, taken-at, byteKind, numberKind, textKind, spanKind}
+use Rattle.reading.proofs.Taken.{Kind, taken-refused, taken-left, taken-at, byteKind, numberKind, textKind}
 
 abbrev pub Skip : Type 0
 Skip = List ℕ → ℕ → Read
@@ -86,13 +86,10 @@ text-more = more textKind
 pub text-last : Last textKind
 text-last = last textKind
 
-pub span-last : Last spanKind
-span-last = last spanKind
-
 -- the ways out of a run where a read is refused, and where all are made
 pub ruleset runs-stop = (runs-refused, runs-more, byte-stops, byte-more, number-stops, number-more, text-stops, text-more)
 
-pub ruleset runs-end = (runs-last, runs-more, byte-more, number-more, number-last, text-more, text-last, span-last)
+pub ruleset runs-end = (runs-last, runs-more, byte-more, number-more, number-last, text-more, text-last)
 
 -- a `do` block, part by part
 pub then : {A B : Type 0} (p : Reader A) (f : A → Reader B) (q : Skip) (ps : List Skip) (s : List ℕ) (at : ℕ)

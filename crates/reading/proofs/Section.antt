@@ -1,26 +1,29 @@
 -- The text section: a law for each way out of the code. Assumes nothing.
 use Prim.Native.Nat.{ℕ, _<_, _≤_, _+_, _-_}
-use mathlib.Core.Path.{_≡_, refl, sym, _∙_}
+use mathlib.Core.Path.{_≡_, refl, sym, ap, _∙_}
 use mathlib.Core.List.{List, [], _∷_}
-use mathlib.Core.Bool.{Bool, true, false, not, and-false, false≢true}
+use mathlib.Core.Bool.{Bool, true, false, not, _||_, and-false, and-eq-true-iff, false≢true}
 use mathlib.Core.Logic.{_⊎_, inl, inr}
 use native.Mathlib.Omega.{arith}
 use lib.ListN.{length, getD, take, drop}
+use lib.Dec.{eqb}
 use borrow.Author.Tests.{le-leb, lt-leb}
 use Rattle.ast.specs.Tree.{Text}
 use Rattle.tree.specs.Limits.{textLimit}
 use Rattle.tree.specs.Ans.{Ans, ok, refused, bind, _>>=_, _>>_, done, here, refuse, check}
 use Rattle.tree.specs.Read.{byte, bytes, within}
-use Rattle.tree.specs.Texts.{allowed, among, text, between, every, textAt, past}
-use Rattle.reading.specs.Answers.{forget, gaveByte, byteAnswer}
+use Rattle.tree.specs.Texts.{allowed, among, text, between, every, letter, digit, isName, isFloat, textAt, past}
+use Rattle.reading.specs.Answers.{forget, gaveByte}
+use Rattle.reading.specs.Section.{kindOf, kindRead}
 use Rattle.reading.specs.declared.answers.Read.{Read}
 use Rattle.reading.specs.declared.answers.Read.the-variants.{At, Refused}
 use Rattle.reading.specs.declared.answers.ReadByte.{ReadByte}
-use Rattle.reading.proofs.Taken.{taken-ok, byteKind}
+use Rattle.reading.proofs.Taken.{taken-ok, taken-not, byteKind}
 use Rattle.text.proofs.Order.{le-or-lt}
 use Rattle.text.proofs.Clamp.{none-of}
 use Rattle.reading.proofs.Leaves.{part-cons}
-use Rattle.reading.proofs.Values.{bind-into, byte-ends-it}
+use Rattle.reading.proofs.Values.{not-both, bind-into}
+use Rattle.reading.proofs.Spelled.{letter-below, letter-above, digit-below, digit-above, name-kind}
 
 -- an allowed byte
 module _ (b : ℕ) where
@@ -55,6 +58,45 @@ allowed-all s at end r e t = go (bytes-judged (take (end - at) (drop at s)) at s
     go : Judged (take (end - at) (drop at s)) at s end → At end ≡ forget (allowed (take (end - at) (drop at s)) at s end)
     go (inl h) = rw (h .1)
     go (inr h) = absurd (false≢true (sym (h .0) ∙ sym e ∙ t))
+
+-- letters and digits are allowed
+module _ (c : ℕ) where
+  inside-allowed : (low high : ℕ) (b : Bool) → (c < low → false ≡ b) → (high ≤ c → false ≡ b) → 33 ≤ low → high ≤ 127 → b ≡ true → between 33 126 c ≡ true
+  inside-allowed low high b under over l h e = go (le-or-lt low c) (le-or-lt high c)
+    where
+      go : (low ≤ c) ⊎ (c < low) → (high ≤ c) ⊎ (c < high) → between 33 126 c ≡ true
+      go (inr m) n = absurd (false≢true (under m ∙ e))
+      go (inl m) (inl n) = absurd (false≢true (over n ∙ e))
+      go (inl m) (inr n) = sym (allowed-is c (omega arith) (omega arith))
+
+  letter-allowed : letter c ≡ true → between 33 126 c ≡ true
+  letter-allowed = inside-allowed 65 123 (letter c) (letter-below c) (letter-above c) (omega arith) (omega arith)
+
+  later-allowed : (letter c || digit c) ≡ true → between 33 126 c ≡ true
+  later-allowed h = go (letter c) refl h
+    where
+      go : (b : Bool) → letter c ≡ b → (b || digit c) ≡ true → between 33 126 c ≡ true
+      go true e h = letter-allowed e
+      go false e h = inside-allowed 48 58 (digit c) (digit-below c) (digit-above c) (omega arith) (omega arith) h
+
+every-in : (p q : ℕ → Bool) → ((c : ℕ) → p c ≡ true → q c ≡ true) → (x : List ℕ) → every p x ≡ true → every q x ≡ true
+unfolding every
+every-in p q h [] e = refl
+every-in p q h (c ∷ cs) e = let f = and-eq-true-iff (p c) _ .0 e in rw (h c (f .0)) (every-in p q h cs (f .1))
+
+name-every : (x : Text) → isName x ≡ true → every (between 33 126) x ≡ true
+unfolding isName every
+name-every [] e = refl
+name-every (c ∷ cs) e = let f = and-eq-true-iff (letter c) _ .0 e in rw (letter-allowed c (f .0)) (every-in _ _ later-allowed cs (f .1))
+
+-- so the bytes of a name
+name-allowed : (x : Text) (place : ℕ) (s : List ℕ) (at : ℕ) → kindOf x ≡ 1 → allowed x place s at ≡ ok tt at
+unfolding kindOf
+name-allowed x place s at e = go (bytes-judged x place s at)
+  where
+    go : Judged x place s at → allowed x place s at ≡ ok tt at
+    go (inl h) = h .1
+    go (inr h) = absurd (false≢true (sym (h .0) ∙ name-every x (sym (name-kind (isName x) (isFloat x)) ∙ ap (λ (n : ℕ). eqb n 1) e)))
 
 -- while the first byte that is not allowed is looked for: it is at `k` or behind
 pub record Seeking (s : List ℕ) (at end k : ℕ) : Type 0 where
@@ -113,37 +155,63 @@ module _ (s : List ℕ) (at n start : ℕ) (begun : byte s at ≡ ok n start) wh
     unfolding text among here check done bytes within _>>=_ _>>_ bind
     whole-is l = rw (begun, le-leb 1 n (omega arith), le-leb n textLimit few, le-leb (start + n) (length s) l)
 
--- a byte that was read
+-- a text whose length byte was read
 module _ (s : List ℕ) (at : ℕ) (a : ReadByte) (read : a ≡ gaveByte (byte s at)) where
-  pub text-refused : (m p : ℕ) → a ≡ ReadByte.Refused m p → (r : Read) → r ≡ forget (byteAnswer a) → r ≡ forget (text [] s at)
-  unfolding text here _>>=_ bind
-  text-refused m p g = byte-ends-it _ _ a m p read g
+  pub text-refused : (m p : ℕ) → a ≡ ReadByte.Refused m p → a ≡ gaveByte (kindRead s at)
+  unfolding kindRead text here _>>=_ bind gaveByte
+  text-refused m p g = g ∙ rw (taken-not byteKind a (byte s at) read m p g)
 
   module _ (n start : ℕ) (g : a ≡ ReadByte.At n start) where
     begun : byte s at ≡ ok n start
     begun = taken-ok byteKind a (byte s at) read n start g
 
-    pub text-empty : n ≡ 0 → Refused 4 at ≡ forget (text [] s at)
-    unfolding forget
+    pub text-empty : n ≡ 0 → ReadByte.Refused 4 at ≡ gaveByte (kindRead s at)
+    unfolding kindRead _>>=_ bind gaveByte
     text-empty z = rw (empty-is s at n start begun z)
 
-    pub text-long : textLimit < n → Refused 4 at ≡ forget (text [] s at)
-    unfolding forget
+    pub text-long : textLimit < n → ReadByte.Refused 4 at ≡ gaveByte (kindRead s at)
+    unfolding kindRead _>>=_ bind gaveByte
     text-long l = rw (long-is s at n start begun l)
 
     module _ (some : n ≡ 0 → ⊥) (few : n ≤ textLimit) (width left : ℕ) (e : width ≡ n) (f : left ≡ length s - start) where
-      pub text-cut : left < width → Refused 3 (length s) ≡ forget (text [] s at)
-      unfolding forget
+      pub text-cut : left < width → ReadByte.Refused 3 (length s) ≡ gaveByte (kindRead s at)
+      unfolding kindRead _>>=_ bind gaveByte
       text-cut l = rw (cut-is s at n start begun some few (omega arith))
 
-      pub text-whole : width ≤ left → (r : Read) → r ≡ forget (allowed (take (start + width - start) (drop start s)) start s (start + width)) → r ≡ forget (text [] s at)
-      unfolding forget bind
-      text-whole l r h =
-          let z : start + width - start ≡ n = omega arith in
-          (rw (z, e) at h) ∙ rw (whole-is s at n start begun some few (omega arith)) (go (allowed (take n (drop start s)) start s (start + n)))
-        where
-          go : (x : Ans (Unit {0})) → forget x ≡ forget (bind x (λ u next. ok (take n (drop start s)) next))
-          go (ok u next) = refl
-          go (refused m p) = refl
+      -- its bytes, and their kind `v`
+      module _ (l : width ≤ left) (v : ℕ) (h : v ≡ kindOf (take (start + width - start) (drop start s))) where
+        judged : gaveByte (kindRead s at) ≡ gaveByte (bind (allowed (take (start + width - start) (drop start s)) start s (start + width)) (λ u next. ok v next))
+        unfolding kindRead done _>>=_ bind
+        judged =
+            let z : start + width - start ≡ n = omega arith in
+            rw (h, z, e, whole-is s at n start begun some few (omega arith)) (go (allowed (take n (drop start s)) start s (start + n)))
+          where
+            go : (x : Ans (Unit {0})) → gaveByte (bind (bind x (λ u next. ok (take n (drop start s)) next)) (λ y next. ok (kindOf y) next)) ≡ gaveByte (bind x (λ u next. ok (kindOf (take n (drop start s))) next))
+            go (ok u next) = refl
+            go (refused m p) = refl
 
-pub ruleset one-text = (text-refused, text-empty, text-long, text-cut, text-whole)
+        pub text-name : v ≡ 1 → ReadByte.At v (start + width) ≡ gaveByte (kindRead s at)
+        unfolding bind gaveByte
+        text-name o = sym (judged ∙ rw (name-allowed _ start s (start + width) (sym h ∙ o)) refl)
+
+        module _ (b : Read) (i : b ≡ forget (allowed (take (start + width - start) (drop start s)) start s (start + width))) where
+          pub text-good : (next : ℕ) → b ≡ At next → ReadByte.At v next ≡ gaveByte (kindRead s at)
+          unfolding bind gaveByte forget
+          text-good next o = sym (judged ∙ go (allowed (take (start + width - start) (drop start s)) start s (start + width)) (sym o ∙ i))
+            where
+              go : (x : Ans (Unit {0})) → At next ≡ forget x → gaveByte (bind x (λ u next. ok v next)) ≡ ReadByte.At v next
+              go (ok u k) j = let z : next ≡ k = cc in rw z
+              go (refused m p) j = absurd (not-both refl j)
+
+          pub text-bad : (m p : ℕ) → b ≡ Refused m p → ReadByte.Refused m p ≡ gaveByte (kindRead s at)
+          unfolding bind gaveByte forget
+          text-bad m p o = sym (judged ∙ go (allowed (take (start + width - start) (drop start s)) start s (start + width)) (sym o ∙ i))
+            where
+              go : (x : Ans (Unit {0})) → Refused m p ≡ forget x → gaveByte (bind x (λ u next. ok v next)) ≡ ReadByte.Refused m p
+              go (ok u k) j = absurd (not-both j refl)
+              go (refused n q) j =
+                  let z : m ≡ n = cc in
+                  let y : p ≡ q = cc in
+                  rw (z, y)
+
+pub ruleset one-text = (text-refused, text-empty, text-long, text-cut, text-name, text-good, text-bad)

@@ -184,6 +184,13 @@ module _ (x : List ℕ) where
   unfolding kindOf kindBy
   kind-neither r q e g f h = rw (sym e, g, sym f, h)
 
+-- a kind says whether the text is a name
+pub name-kind : (a b : Bool) → eqb (kindBy a b) 1 ≡ a
+unfolding kindBy
+name-kind true b = refl
+name-kind false true = refl
+name-kind false false = refl
+
 pub ruleset spelled = (digits-none, digits-all, name-none, name-first, name-other, float-none, float-first, float-other, kind-name, kind-float, kind-neither)
 
 -- a byte that goes in alone

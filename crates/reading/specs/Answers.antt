@@ -1,13 +1,11 @@
 -- What the code answers for what a reader of the decoder answers: the value and the next place where the value is read whole, the place alone
 -- where it is not, and the same refusal.
 use Prim.Native.Nat.{ℕ}
-use Rattle.span.specs.declared.Span.{Span}
 use Rattle.tree.specs.Ans.{Ans, ok, refused}
 use Rattle.reading.specs.declared.answers.Read.{Read}
 use Rattle.reading.specs.declared.answers.ReadByte.{ReadByte}
 use Rattle.reading.specs.declared.answers.ReadNumber.{ReadNumber}
 use Rattle.reading.specs.declared.answers.ReadText.{ReadText}
-use Rattle.reading.specs.declared.answers.ReadSpan.{ReadSpan}
 
 unfoldable pub gaveByte : Ans ℕ → ReadByte
 gaveByte (ok value next) = ReadByte.At value next
@@ -20,10 +18,6 @@ gaveNumber (refused number place) = ReadNumber.Refused number place
 unfoldable pub gaveText : Ans ℕ → ReadText
 gaveText (ok value next) = ReadText.At value next
 gaveText (refused number place) = ReadText.Refused number place
-
-unfoldable pub gaveSpan : Ans Span → ReadSpan
-gaveSpan (ok value next) = ReadSpan.At value next
-gaveSpan (refused number place) = ReadSpan.Refused number place
 
 unfoldable pub forget : {A : Type 0} → Ans A → Read
 forget (ok value next) = Read.At next
@@ -41,7 +35,3 @@ numberAnswer (ReadNumber.Refused number place) = refused number place
 unfoldable pub textAnswer : ReadText → Ans ℕ
 textAnswer (ReadText.At value next) = ok value next
 textAnswer (ReadText.Refused number place) = refused number place
-
-unfoldable pub spanAnswer : ReadSpan → Ans Span
-spanAnswer (ReadSpan.At value next) = ok value next
-spanAnswer (ReadSpan.Refused number place) = refused number place

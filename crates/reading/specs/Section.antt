@@ -1,6 +1,6 @@
 -- The text section as the code goes through it, by its length bytes, and the kind and checksum of each text.
 use mathlib.Core.Path.{_≡_}
-use Prim.Native.Nat.{ℕ, zero, suc, _+_, _*_, _%_, _^_}
+use Prim.Native.Nat.{ℕ, zero, suc, _+_, _*_, _/_, _%_, _^_}
 use mathlib.Core.List.{List, [], _∷_, map}
 use mathlib.Core.Bool.{Bool, true, false, _||_}
 use lib.Dec.{eqb, leb}
@@ -9,7 +9,7 @@ use Rattle.ast.specs.Tree.{Text}
 use Rattle.tree.specs.Limits.{textsLimit}
 use Rattle.tree.specs.Ans.{Reader, _>>=_, _>>_, done, here, check}
 use Rattle.tree.specs.Read.{u16}
-use Rattle.tree.specs.Texts.{isName, isFloat, texts, textAt, past}
+use Rattle.tree.specs.Texts.{isName, isFloat, text, texts, textAt, past}
 use Rattle.tree.specs.Decode.{textsOf}
 use Rattle.reading.specs.declared.answers.Read.{Read}
 use Rattle.reading.specs.Answers.{forget}
@@ -34,6 +34,12 @@ kindOf x = kindBy (isName x) (isFloat x)
 
 unfoldable pub ofKind : ℕ → Text → Bool
 ofKind kind x = eqb (kindOf x) kind
+
+-- a text, of which the kind is told
+unfoldable pub kindRead : Reader ℕ
+kindRead = do
+  x ← text []
+  done (kindOf x)
 
 unfoldable pub kindsOf : List ℕ → List ℕ
 kindsOf s = map kindOf (textsOf s)
@@ -64,6 +70,10 @@ checksum x = sumFrom 0 x
 unfoldable pub hasSum : ℕ → List ℕ → Bool
 hasSum x [] = false
 hasSum x (y ∷ ys) = eqb x y || hasSum x ys
+
+-- the place of a checksum in a table of 1,024: of a product of 32 bits the first ten
+abbrev pub slotOf : ℕ → ℕ
+slotOf x = (x % 2 ^ 32 + x / 2 ^ 32) % 2 ^ 32 * 2654435769 / 2 ^ 22 % 1024
 
 -- the count of the texts, as `texts` begins
 unfoldable pub textCount : Reader ℕ

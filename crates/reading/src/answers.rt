@@ -1,16 +1,15 @@
 // What a read answers: for each kind of value that is read whole, the value and the place past it, or a refusal's number and place.
 use crate::numbers::size;
-use span::Span;
 ghost use mathlib.Core.Path.{_≡_};
-ghost use Rattle.reading.specs.Answers.{forget, gaveText, byteAnswer, numberAnswer, textAnswer, spanAnswer};
+ghost use Rattle.reading.specs.Answers.{forget, gaveText, byteAnswer, numberAnswer, textAnswer};
 
-// Of a list or a tree the place alone: there is nothing to hold it.
+// Of a list or a tree the place alone: there is nothing to hold it. Of a span too: its numbers are not asked for.
 pub enum Read {
     At(usize),
     Refused(u8, usize),
 }
 
-// A case byte, or the count of a Vec.
+// A case byte, the count of a Vec, or the kind of a text.
 pub enum ReadByte {
     At(u8, usize),
     Refused(u8, usize),
@@ -24,11 +23,6 @@ pub enum ReadNumber {
 // The number of a text.
 pub enum ReadText {
     At(usize, usize),
-    Refused(u8, usize),
-}
-
-pub enum ReadSpan {
-    At(Span, usize),
     Refused(u8, usize),
 }
 
@@ -72,17 +66,6 @@ impl ReadText {
         match self {
             ReadText::At(_, next) => Read::At(next),
             ReadText::Refused(number, place) => Read::Refused(number, place),
-        }
-    }
-}
-
-impl ReadSpan {
-    pub fn into_read(self) -> Read
-        ensures { λ r. ⌜ r ≡ forget (spanAnswer self) ⌝ }
-    {
-        match self {
-            ReadSpan::At(_, next) => Read::At(next),
-            ReadSpan::Refused(number, place) => Read::Refused(number, place),
         }
     }
 }

@@ -10,22 +10,32 @@ use crate::numbers::size;
 use crate::spelling;
 use text::wide;
 ghost use mathlib.Core.Path.{_≡_};
-ghost use Prim.Native.Nat.{_≤_, _-_};
+ghost use Prim.Native.Nat.{_≤_, _<_, _-_};
 ghost use mathlib.Core.Bool.{_||_};
 ghost use lib.Dec.{eqb};
-ghost use mathlib.Core.List.{[], map};
+ghost use mathlib.Core.List.{map};
 ghost use lib.ListN.{length, take, drop};
 ghost use Rattle.text.specs.Text.{same};
-ghost use Rattle.tree.specs.Texts.{between, every, allowed, among, text, isName, isFloat, isPath, textAt, past};
+ghost use Rattle.tree.specs.Texts.{between, every, allowed, among, isName, isFloat, isPath, textAt, past};
 ghost use Rattle.tree.specs.Exprs.{textNumber};
-ghost use Rattle.reading.specs.Answers.{forget, gaveNumber, gaveText};
-ghost use Rattle.reading.specs.Section.{textsFrom, pastTexts, textCount, ofKind, kindsOf, checksum, hasSum, Gathered};
+ghost use Rattle.reading.specs.Answers.{forget, gaveByte, gaveNumber, gaveText};
+ghost use Rattle.reading.specs.Section.{textsFrom, pastTexts, textCount, ofKind, kindRead, kindsOf, checksum, hasSum, slotOf, Gathered};
 ghost use Rattle.tree.specs.Ans.{ok};
 ghost use Rattle.tree.specs.Decode.{textsOf};
 
 pub const TEXTS_LIMIT: usize = 256;
 
 const TEXT_LIMIT: u8 = 64;
+
+// A table says which checksums were met, by their slots: 2^10 places, the first ten of 32 bits.
+const SLOTS: usize = 1024;
+
+const FIRST_BITS: u64 = 4194304;
+
+const HALF: u64 = 4294967296;
+
+// HALF's golden section, by which near numbers are spread over the whole.
+const SPREAD: u64 = 2654435769;
 
 // The bytes of texts.
 const FIRST_BYTE: u8 = 33;
@@ -123,6 +133,14 @@ fn has_sum(sums: &[u64], sum: u64) -> bool
     found
 }
 
+// The place of a checksum in a table: of a product of 32 bits the first ten.
+fn slot_of(sum: u64) -> usize
+    ensures { λ r. ⌜ (r ≡ slotOf sum) × (r < 1024) ⌝ }
+{
+    let folded = (sum % HALF + sum / HALF) % HALF;
+    size(folded * SPREAD / FIRST_BITS) % SLOTS
+}
+
 // Whether a text equals one of the first `n`, whose checksums are lent.
 fn is_repeated(s: &[u8], x: &[u8], sum: u64, n: usize, sums: &[u64]) -> bool
     requires { ⌜ sum ≡ checksum (now x) ⌝ }
@@ -146,26 +164,34 @@ fn is_repeated(s: &[u8], x: &[u8], sum: u64, n: usize, sums: &[u64]) -> bool
     false
 }
 
-// A text. Whether an earlier one is equal is not asked.
-fn read_text(s: &[u8], at: usize) -> Read
-    ensures { λ r. ⌜ r ≡ forget (text [] (now (s .entry)) at) ⌝ }
+// A text, of which the kind is told. Whether an earlier one is equal is not asked.
+fn read_text(s: &[u8], at: usize) -> ReadByte
+    ensures { λ r. ⌜ r ≡ gaveByte (kindRead (now (s .entry)) at) ⌝ }
 {
     let a = read_byte(s, at);
     let ReadByte::At(length, start) = a else {
-        return a.into_read();
+        return a;
     };
     if length == 0 {
-        return Read::Refused(4, at);
+        return ReadByte::Refused(4, at);
     }
     if TEXT_LIMIT < length {
-        return Read::Refused(4, at);
+        return ReadByte::Refused(4, at);
     }
     let width = wide(length);
     if bytes_from(s, start) < width {
-        return Read::Refused(3, s.len());
+        return ReadByte::Refused(3, s.len());
     }
     let end = start + width;
-    read_allowed(s, start, end)
+    let kind = spelling::kind(&s[start..end]);
+    if kind == spelling::NAME {
+        return ReadByte::At(kind, end); // the bytes of a name are allowed
+    }
+    let b = read_allowed(s, start, end);
+    match b {
+        Read::At(next) => ReadByte::At(kind, next),
+        Read::Refused(number, place) => ReadByte::Refused(number, place),
+    }
 }
 
 // How many texts there are.
@@ -189,19 +215,24 @@ pub fn read_texts(s: &[u8], first: usize, n: usize, kinds: &mut [u8; TEXTS_LIMIT
     ensures { λ r. ⌜ Gathered (now (s .entry)) (now (kinds .exit)) n r ⌝ }
 {
     let mut sums = [0u64; TEXTS_LIMIT];
+    let mut met = [0u8; SLOTS];
     let mut k = first;
     let mut i = 0;
     while i < n {
         let a = read_text(s, k);
-        let Read::At(next) = a else {
-            return a;
+        let ReadByte::At(kind, next) = a else {
+            return a.into_read();
         };
         let x = &s[k + 1..next];
         let sum = spelling::checksum(x);
-        if is_repeated(s, x, sum, i, &sums[..i]) {
-            return Read::Refused(4, k);
+        let slot = slot_of(sum);
+        if met[slot] != 0 {
+            if is_repeated(s, x, sum, i, &sums[..i]) {
+                return Read::Refused(4, k);
+            }
         }
-        kinds[i] = spelling::kind(x);
+        met[slot] = 1;
+        kinds[i] = kind;
         sums[i] = sum;
         k = next;
         i += 1;

@@ -103,7 +103,7 @@ module _ (t : ℕ) where
       (λ c. search vecs)  -- returns-3: fn read_args(s: &[u8], kinds: &[u8], at: usize, left: usize) ..
 
   abbrev read-call-calls : read-call-lts.Claims
-  read-call-calls = (reading.texts.read_name.Reads.Asked, reading.texts.read_name.Reads.Learnt, reading.answers.ReadText.into_read.Reads.Asked, reading.answers.ReadText.into_read.Reads.Learnt, read-args-below, read-args.Post, reading.numbers.read_span.Reads.Asked, reading.numbers.read_span.Reads.Learnt, reading.answers.ReadSpan.into_read.Reads.Asked, reading.answers.ReadSpan.into_read.Reads.Learnt)
+  read-call-calls = (reading.texts.read_name.Reads.Asked, reading.texts.read_name.Reads.Learnt, reading.answers.ReadText.into_read.Reads.Asked, reading.answers.ReadText.into_read.Reads.Learnt, read-args-below, read-args.Post, reading.numbers.pass_span.Reads.Asked, reading.numbers.pass_span.Reads.Learnt)
 
   read-call-closed : {M : Type 1} → read-call-lts.Closed read-call-calls read-call-at read-call.Post M
   read-call-closed =
@@ -117,8 +117,7 @@ module _ (t : ℕ) where
       (λ c. search needs)  -- enum-known-b: let Read::At(l) = b else {
       (λ c. search needs)  -- enum-told-2: return b;
       (λ c. search (fields, runs-stop))  -- returns-2
-      (λ c κs. search needs)  -- read-span-requires: read_span(s, l).into_read()
-      (λ c κs. search needs)  -- into-read-requires-2
+      (λ c κs. search needs)  -- pass-span-requires: pass_span(s, l)
       (λ c. search (fields, runs-end))  -- returns-3: fn read_call(s: &[u8], kinds: &[u8], at: usize, left: usize) ..
 
   abbrev read-expr-calls : read-expr-lts.Claims
@@ -157,7 +156,7 @@ module _ (t : ℕ) where
       (λ c. arm-pair _ _ _ _ _ (c .before .before .before .before .before .before .before .read-case .ensures) _ _ (c .before .before .before .before .before .a .given .1) (c .before .before .before .if1 .left) _ (unlike 8 _ (c .before .before .match2 .rest)) _ (c .before .operators .ensures) (c .read-pair .ensures))  -- returns-11
 
   abbrev read-neg-calls : read-neg-lts.Claims
-  read-neg-calls = (read-expr-below, read-expr.Post, reading.numbers.read_span.Reads.Asked, reading.numbers.read_span.Reads.Learnt, reading.answers.ReadSpan.into_read.Reads.Asked, reading.answers.ReadSpan.into_read.Reads.Learnt)
+  read-neg-calls = (read-expr-below, read-expr.Post, reading.numbers.pass_span.Reads.Asked, reading.numbers.pass_span.Reads.Learnt)
 
   read-neg-closed : {M : Type 1} → read-neg-lts.Closed read-neg-calls read-neg-at read-neg.Post M
   read-neg-closed =
@@ -166,12 +165,11 @@ module _ (t : ℕ) where
       (λ c. search needs)  -- enum-known-a: let Read::At(k) = a else {
       (λ c. search needs)  -- enum-told: return a;
       (λ c. search (fields, runs-stop))  -- returns
-      (λ c κs. search needs)  -- read-span-requires: read_span(s, k).into_read()
-      (λ c κs. search needs)  -- into-read-requires
+      (λ c κs. search needs)  -- pass-span-requires: pass_span(s, k)
       (λ c. search (fields, runs-end))  -- returns-2: fn read_neg(s: &[u8], kinds: &[u8], at: usize, left: usize)  ..
 
   abbrev read-pair-calls : read-pair-lts.Claims
-  read-pair-calls = (reading.numbers.read_case.Reads.Asked, reading.numbers.read_case.Reads.Learnt, reading.answers.ReadByte.into_read.Reads.Asked, reading.answers.ReadByte.into_read.Reads.Learnt, read-expr-below, read-expr.Post, reading.numbers.read_span.Reads.Asked, reading.numbers.read_span.Reads.Learnt, reading.answers.ReadSpan.into_read.Reads.Asked, reading.answers.ReadSpan.into_read.Reads.Learnt)
+  read-pair-calls = (reading.numbers.read_case.Reads.Asked, reading.numbers.read_case.Reads.Learnt, reading.answers.ReadByte.into_read.Reads.Asked, reading.answers.ReadByte.into_read.Reads.Learnt, read-expr-below, read-expr.Post, reading.numbers.pass_span.Reads.Asked, reading.numbers.pass_span.Reads.Learnt)
 
   read-pair-closed : {M : Type 1} → read-pair-lts.Closed read-pair-calls read-pair-at read-pair.Post M
   read-pair-closed =
@@ -189,8 +187,7 @@ module _ (t : ℕ) where
       (λ c. search needs)  -- enum-known-c: let Read::At(m) = c else {
       (λ c. search needs)  -- enum-told-3: return c;
       (λ c. search (fields, runs-stop))  -- returns-3
-      (λ c κs. search needs)  -- read-span-requires: read_span(s, m).into_read()
-      (λ c κs. search needs)  -- into-read-requires-2
+      (λ c κs. search needs)  -- pass-span-requires: pass_span(s, m)
       (λ c. search (fields, runs-end))  -- returns-4: fn read_pair(s: &[u8], kinds: &[u8], at: usize, left: usiz ..
 
 pub +read-args+read-call+read-expr+read-neg+read-pair-spec : {M : Type 1} → statement M

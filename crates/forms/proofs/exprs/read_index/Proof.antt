@@ -18,6 +18,5 @@ read-index-spec =
     (λ c. search needs)  -- enum-told-2
     (λ c κs. search needs)  -- into-read-requires-2
     (λ c. search (fields, runs-stop))  -- returns-2
-    (λ c κs. search needs)  -- read-span-requires
-    (λ c κs. search needs)  -- into-read-requires-3
+    (λ c κs. search needs)  -- pass-span-requires
     (λ c. search (fields, runs-end)))  -- returns-3

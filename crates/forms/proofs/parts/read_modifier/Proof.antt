@@ -14,8 +14,7 @@ read-modifier-spec =
     (λ c. search modifiers)  -- returns
     (λ c κs. search needs)  -- read-ctrl-requires
     (λ c κs. search needs)  -- read-ctrl-requires-2
-    (λ c κs. search needs)  -- read-span-requires
-    (λ c κs. search needs)  -- into-read-requires-2
+    (λ c κs. search needs)  -- pass-span-requires
     (λ c κs. search needs)  -- read-pow-requires
     (λ c. search modifiers)  -- returns-2
     (λ c. search modifiers)  -- returns-3

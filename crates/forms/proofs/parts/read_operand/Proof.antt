@@ -21,6 +21,5 @@ read-operand-spec =
     (λ c. search needs)  -- enum-known-c
     (λ c. search needs)  -- enum-told-3
     (λ c. search (fields, runs-stop))  -- returns-3
-    (λ c κs. search needs)  -- read-span-requires
-    (λ c κs. search needs)  -- into-read-requires-2
+    (λ c κs. search needs)  -- pass-span-requires
     (λ c. search (fields, runs-end)))  -- returns-4

@@ -23,6 +23,5 @@ read-assignment-spec =
     (λ c. search needs)  -- enum-known-c
     (λ c. search needs)  -- enum-told-3
     (λ c. search (stmt-fields, runs-stop))  -- returns-3
-    (λ c κs. search needs)  -- read-span-requires
-    (λ c κs. search needs)  -- into-read-requires-3
+    (λ c κs. search needs)  -- pass-span-requires
     (λ c. search (stmt-fields, runs-end)))  -- returns-4

@@ -13,6 +13,5 @@ read-barrier-spec =
     (λ c. search needs)  -- enum-known-a
     (λ c. search needs)  -- enum-told
     (λ c. search (stmt-fields, runs-stop))  -- returns
-    (λ c κs. search needs)  -- read-span-requires
-    (λ c κs. search needs)  -- into-read-requires
+    (λ c κs. search needs)  -- pass-span-requires
     (λ c. search (stmt-fields, runs-end)))  -- returns-2

@@ -14,6 +14,5 @@ read-include-spec =
     (λ c. search needs)  -- enum-told
     (λ c κs. search needs)  -- into-read-requires
     (λ c. search (stmt-fields, runs-stop))  -- returns
-    (λ c κs. search needs)  -- read-span-requires
-    (λ c κs. search needs)  -- into-read-requires-2
+    (λ c κs. search needs)  -- pass-span-requires
     (λ c. search (stmt-fields, runs-end)))  -- returns-2

@@ -17,6 +17,5 @@ read-measure-spec =
     (λ c. search needs)  -- enum-known-b
     (λ c. search needs)  -- enum-told-2
     (λ c. search (stmt-fields, runs-stop))  -- returns-2
-    (λ c κs. search needs)  -- read-span-requires
-    (λ c κs. search needs)  -- into-read-requires
+    (λ c κs. search needs)  -- pass-span-requires
     (λ c. search (stmt-fields, runs-end)))  -- returns-3

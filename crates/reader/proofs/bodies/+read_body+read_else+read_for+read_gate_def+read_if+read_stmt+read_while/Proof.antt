@@ -139,7 +139,7 @@ module _ (t : ℕ) where
       (λ c. search (else-is, options))  -- returns-3: fn read_else(s: &[u8], kinds: &[u8], at: usize, left: usize) ..
 
   abbrev read-for-calls : read-for-lts.Claims
-  read-for-calls = (reading.texts.read_name.Reads.Asked, reading.texts.read_name.Reads.Learnt, reading.answers.ReadText.into_read.Reads.Asked, reading.answers.ReadText.into_read.Reads.Learnt, forms.parts.read_type.Reads.Asked, forms.parts.read_type.Reads.Learnt, reading.answers.ReadByte.into_read.Reads.Asked, reading.answers.ReadByte.into_read.Reads.Learnt, forms.parts.read_range.Reads.Asked, forms.parts.read_range.Reads.Learnt, read-body-below, read-body.Post, reading.numbers.read_span.Reads.Asked, reading.numbers.read_span.Reads.Learnt, reading.answers.ReadSpan.into_read.Reads.Asked, reading.answers.ReadSpan.into_read.Reads.Learnt)
+  read-for-calls = (reading.texts.read_name.Reads.Asked, reading.texts.read_name.Reads.Learnt, reading.answers.ReadText.into_read.Reads.Asked, reading.answers.ReadText.into_read.Reads.Learnt, forms.parts.read_type.Reads.Asked, forms.parts.read_type.Reads.Learnt, reading.answers.ReadByte.into_read.Reads.Asked, reading.answers.ReadByte.into_read.Reads.Learnt, forms.parts.read_range.Reads.Asked, forms.parts.read_range.Reads.Learnt, read-body-below, read-body.Post, reading.numbers.pass_span.Reads.Asked, reading.numbers.pass_span.Reads.Learnt)
 
   read-for-closed : {M : Type 1} → read-for-lts.Closed read-for-calls read-for-at read-for.Post M
   read-for-closed =
@@ -163,12 +163,11 @@ module _ (t : ℕ) where
       (λ c. search needs)  -- enum-known-d: let Read::At(n) = d else {
       (λ c. search needs)  -- enum-told-4: return d;
       (λ c. search (body-fields, runs-stop))  -- returns-4
-      (λ c κs. search needs)  -- read-span-requires: read_span(s, n).into_read()
-      (λ c κs. search needs)  -- into-read-requires-3
+      (λ c κs. search needs)  -- pass-span-requires: pass_span(s, n)
       (λ c. search (body-fields, runs-end) depth 6)  -- returns-5: fn read_for(s: &[u8], kinds: &[u8], at: usize, left: usize)  ..
 
   abbrev read-gate-def-calls : read-gate-def-lts.Claims
-  read-gate-def-calls = (reading.texts.read_name.Reads.Asked, reading.texts.read_name.Reads.Learnt, reading.answers.ReadText.into_read.Reads.Asked, reading.answers.ReadText.into_read.Reads.Learnt, forms.parts.read_names.Reads.Asked, forms.parts.read_names.Reads.Learnt, read-body-below, read-body.Post, reading.numbers.read_span.Reads.Asked, reading.numbers.read_span.Reads.Learnt, reading.answers.ReadSpan.into_read.Reads.Asked, reading.answers.ReadSpan.into_read.Reads.Learnt)
+  read-gate-def-calls = (reading.texts.read_name.Reads.Asked, reading.texts.read_name.Reads.Learnt, reading.answers.ReadText.into_read.Reads.Asked, reading.answers.ReadText.into_read.Reads.Learnt, forms.parts.read_names.Reads.Asked, forms.parts.read_names.Reads.Learnt, read-body-below, read-body.Post, reading.numbers.pass_span.Reads.Asked, reading.numbers.pass_span.Reads.Learnt)
 
   read-gate-def-closed : {M : Type 1} → read-gate-def-lts.Closed read-gate-def-calls read-gate-def-at read-gate-def.Post M
   read-gate-def-closed =
@@ -191,12 +190,11 @@ module _ (t : ℕ) where
       (λ c. search needs)  -- enum-known-d: let Read::At(n) = d else {
       (λ c. search needs)  -- enum-told-4: return d;
       (λ c. search (body-fields, runs-stop))  -- returns-4
-      (λ c κs. search needs)  -- read-span-requires: read_span(s, n).into_read()
-      (λ c κs. search needs)  -- into-read-requires-2
+      (λ c κs. search needs)  -- pass-span-requires: pass_span(s, n)
       (λ c. search (body-fields, runs-end) depth 6)  -- returns-5: fn read_gate_def(s: &[u8], kinds: &[u8], at: usize, left: us ..
 
   abbrev read-if-calls : read-if-lts.Claims
-  read-if-calls = (forms.exprs.read_held.Reads.Asked, forms.exprs.read_held.Reads.Learnt, read-body-below, read-body.Post, read-else-below, read-else.Post, reading.numbers.read_span.Reads.Asked, reading.numbers.read_span.Reads.Learnt, reading.answers.ReadSpan.into_read.Reads.Asked, reading.answers.ReadSpan.into_read.Reads.Learnt)
+  read-if-calls = (forms.exprs.read_held.Reads.Asked, forms.exprs.read_held.Reads.Learnt, read-body-below, read-body.Post, read-else-below, read-else.Post, reading.numbers.pass_span.Reads.Asked, reading.numbers.pass_span.Reads.Learnt)
 
   read-if-closed : {M : Type 1} → read-if-lts.Closed read-if-calls read-if-at read-if.Post M
   read-if-closed =
@@ -214,8 +212,7 @@ module _ (t : ℕ) where
       (λ c. search needs)  -- enum-known-c: let Read::At(m) = c else {
       (λ c. search needs)  -- enum-told-3: return c;
       (λ c. search (body-fields, runs-stop))  -- returns-3
-      (λ c κs. search needs)  -- read-span-requires: read_span(s, m).into_read()
-      (λ c κs. search needs)  -- into-read-requires
+      (λ c κs. search needs)  -- pass-span-requires: pass_span(s, m)
       (λ c. search (body-fields, runs-end))  -- returns-4: fn read_if(s: &[u8], kinds: &[u8], at: usize, left: usize) - ..
 
   abbrev read-stmt-calls : read-stmt-lts.Claims
@@ -266,7 +263,7 @@ module _ (t : ℕ) where
       (λ c. search statements)  -- returns-17
 
   abbrev read-while-calls : read-while-lts.Claims
-  read-while-calls = (forms.exprs.read_held.Reads.Asked, forms.exprs.read_held.Reads.Learnt, read-body-below, read-body.Post, reading.numbers.read_span.Reads.Asked, reading.numbers.read_span.Reads.Learnt, reading.answers.ReadSpan.into_read.Reads.Asked, reading.answers.ReadSpan.into_read.Reads.Learnt)
+  read-while-calls = (forms.exprs.read_held.Reads.Asked, forms.exprs.read_held.Reads.Learnt, read-body-below, read-body.Post, reading.numbers.pass_span.Reads.Asked, reading.numbers.pass_span.Reads.Learnt)
 
   read-while-closed : {M : Type 1} → read-while-lts.Closed read-while-calls read-while-at read-while.Post M
   read-while-closed =
@@ -280,8 +277,7 @@ module _ (t : ℕ) where
       (λ c. search needs)  -- enum-known-b: let Read::At(l) = b else {
       (λ c. search needs)  -- enum-told-2: return b;
       (λ c. search (body-fields, runs-stop))  -- returns-2
-      (λ c κs. search needs)  -- read-span-requires: read_span(s, l).into_read()
-      (λ c κs. search needs)  -- into-read-requires
+      (λ c κs. search needs)  -- pass-span-requires: pass_span(s, l)
       (λ c. search (body-fields, runs-end))  -- returns-3: fn read_while(s: &[u8], kinds: &[u8], at: usize, left: usize ..
 
 pub +read-body+read-else+read-for+read-gate-def+read-if+read-stmt+read-while-spec : {M : Type 1} → statement M

@@ -1,5 +1,5 @@
 -- `reading::texts::read_text` meets its contract. Assumes nothing.
-use Rattle.reading.proofs.Section.{one-text}
+use Rattle.reading.proofs.Section.{one-text, text-cut, text-name, text-good, text-bad}
 use borrow.Author.Needs.{needs}
 use Rattle.reading.proofs.texts.read_text.Statement.{statement}
 use Rattle.reading.proofs.texts.read_text.Tie as tie
@@ -10,13 +10,20 @@ read-text-spec =
     (λ c κs. search needs)  -- read-byte-requires
     (λ c. search needs)  -- enum-known-a
     (λ c. search needs)  -- enum-told
-    (λ c κs. search needs)  -- into-read-requires
     (λ c. search one-text)  -- returns
     (λ c. search one-text)  -- returns-2
     (λ c. search one-text)  -- returns-3
     (λ c κs. search needs)  -- wide-requires
     (λ c κs. search needs)  -- bytes-from-requires
-    (λ c. search (one-text, needs))  -- returns-4
+    (λ c. let law = text-cut _ _ _ (c .before .before .before .before .before .before .before .before .read-byte .ensures) _ _ (c .before .before .before .before .before .before .a .given .1) in search (law, needs))  -- returns-4
     (λ c. search needs)  -- add-end
+    (λ c. search needs)  -- sub-kind
+    (λ c. search needs)  -- part-kind-start
+    (λ c. search needs)  -- part-kind-end
+    (λ c κs. search needs)  -- kind-requires
+    (λ c. let law = text-name _ _ _ (c .before .before .before .before .before .before .before .before .before .before .before .read-byte .ensures) _ _ (c .before .before .before .before .before .before .before .before .before .a .given .1) in search (law, needs))  -- returns-5
     (λ c κs. search needs)  -- read-allowed-requires
-    (λ c. search (one-text, needs)))  -- returns-5
+    (λ c. search needs)  -- enum-known-b
+    (λ c. search needs)  -- enum-known-b-2
+    (λ c. let law = text-good _ _ _ (c .before .before .before .before .before .before .before .before .before .before .before .before .before .before .before .read-byte .ensures) _ _ (c .before .before .before .before .before .before .before .before .before .before .before .before .before .a .given .1) in search (law, needs))  -- returns-6
+    (λ c. let law = text-bad _ _ _ (c .before .before .before .before .before .before .before .before .before .before .before .before .before .before .before .read-byte .ensures) _ _ (c .before .before .before .before .before .before .before .before .before .before .before .before .before .a .given .1) in search (law, needs)))  -- returns-7
