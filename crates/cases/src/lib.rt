@@ -1,7 +1,6 @@
 // Reads the trees of a file of cases from standard input, each behind its length in four bytes.
 use libc::STDIN_FILENO;
 use text::wide;
-ghost use mathlib.Core.Path.{_≡_};
 ghost use Prim.Native.Nat.{_<_, _≤_};
 ghost use lib.ListN.{length};
 ghost use Rattle.cases.specs.Case.{sizeOf};

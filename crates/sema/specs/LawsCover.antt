@@ -39,11 +39,6 @@ module _ (D : ℕ → Type 0) (f : ℕ → Option Span) where
   least-on E none to from l = λ i e. ⊎-elim (l i) (λ n. n) (from i e)
   least-on E (some r) to from l = (to (r .0) (l .0), l .1, λ i e b. ⊎-elim (λ d. l .2 i d b) (λ n. n) (from i e))
 
-  -- other marks, the same at the indices of D
-  pub least-of : (g : ℕ → Option Span) (r : Option (ℕ × Span)) → ((i : ℕ) → D i → f i ≡ g i) → Least D f r → Least D g r
-  least-of g none same l = λ i d. sym (same i d) ∙ l i d
-  least-of g (some r) same l = (l .0, sym (same (r .0) (l .0)) ∙ l .1, λ i d b. sym (same i d) ∙ l .2 i d b)
-
 -- an index of the range, both ends included
 abbrev pub Within : ℕ × ℕ → ℕ → Type 0
 Within r i = (r .0 ≤ i) × (i ≤ r .1)
