@@ -86,9 +86,7 @@ fn write(
     requires { ⌜ Learnt (programOf (now tree)) sink × (sink .errors + sink .warnings ≤ 256) ⌝ }
     ensures { λ _. ⌜ (now (listing .exit) ≡ sets (now (listing .entry)) 0 (listingOf (textsOf (now (tree .entry))) (analyze (programOf (now (tree .entry)))))) × SameRest (now (scratch .entry)) (now (scratch .exit)) ⌝ }
 {
-    let errors = sink.errors as usize;
-    let warnings = sink.warnings as usize;
-    let head = lines::first_line(listing, errors, warnings);
+    let head = lines::first_line(listing, sink.errors, sink.warnings);
     run(tree, index, scratch, listing, keys, at, head);
 }
 
@@ -142,7 +140,7 @@ fn check_program(tree: &[u8], scratch: &mut [u8], listing: &mut [u8]) -> Answer
     requires { ⌜ IsOk (decode (now tree)) × (65536 ≤ length (now scratch)) ⌝ }
     ensures { λ r. ⌜ Judged (programOf (now (tree .entry))) (judgeProgram (length (now (listing .entry))) (programOf (now (tree .entry)))) (now (scratch .entry)) (now (listing .entry)) r (now (scratch .exit)) (now (listing .exit)) ⌝ }
 {
-    let mut index = [0u64; 768];
+    let mut index: Index = [0; 768];
     let at = index::place_texts(tree, &mut index);
     tables::enter(scratch, 0); // the keys go by the scopes alone
     let k = keys::collect(tree, &mut index, scratch, 8, Keys { at, count: 0 });

@@ -86,7 +86,7 @@ pub enum FoundFunction {
     None,
 }
 
-// How far the listing is: its length, and the diagnostics in it. Every function that may say something takes and gives one: it is 8 bytes.
+// How far the listing is: its length, and the diagnostics in it. It is passed by value everywhere, so it is 8 bytes.
 pub struct Sink {
     pub n: u32,
     pub errors: u16,

@@ -289,7 +289,7 @@ pub fn report(out: &mut [u8], sink: Sink, tree: &[u8], index: &Index, d: Diagnos
 }
 
 // The listing's first line, from place 0 on. The answer is its length.
-pub fn first_line(out: &mut [u8], errors: usize, warnings: usize) -> usize
+pub fn first_line(out: &mut [u8], errors: u16, warnings: u16) -> usize
     ensures { λ r. ⌜ Wrote (now (out .entry)) 0 (now (out .exit)) r (ended (spaced (text "list") (decimal errors ∷ decimal warnings ∷ []) ∷ [])) ⌝ }
 {
     let a = pieces::copy(out, 0, b"list ");

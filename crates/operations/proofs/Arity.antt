@@ -3,7 +3,7 @@ use Prim.Native.Nat.{ℕ, _+_, _-_, _≤_, _<_}
 use mathlib.Core.Path.{_≡_, refl, sym, ap, _∙_}
 use mathlib.Core.List.{List, [], map}
 use mathlib.Core.Option.{none, some}
-use mathlib.Core.Bool.{Bool, true, false, _&&_, and-eq-true-iff}
+use mathlib.Core.Bool.{Bool, true, false, and-eq-true-iff}
 use native.Mathlib.Omega.{arith}
 use native.Mathlib.Nat.{add-comm}
 use lib.ListN.{getD}
@@ -30,7 +30,7 @@ use Rattle.lines.specs.declared.Diagnostic.{Diagnostic as DiagnosticValue}
 use Rattle.lines.specs.Values.{secondaryOf, errorOf, Reported}
 use Rattle.promises.specs.Emitted.{Emitted, emitted-one, emitted-then, emitted-as, unless-holds, unless-fails}
 use Rattle.operations.specs.declared.calls.Call.{Call}
-use Rattle.operations.specs.Calls.{noted, paramsBy, qubitsBy, arityBy, standardBy, standardOf, signatureBy}
+use Rattle.operations.specs.Calls.{noted, paramsBy, qubitsBy, fitsArity, arityBy, standardBy, standardOf, signatureBy}
 
 -- `is_arity`: fewer arguments than qubits, or the rest is for the controls
 pub too-few : (args qubits controls : ℕ) → args < qubits → false ≡ eqb args (qubits + controls)
@@ -45,13 +45,13 @@ rest-is args qubits controls l = go (eqb (args - qubits) controls) refl
 
 -- `fits_arity`
 module _ (c : Call) (params qubits : ℕ) where
-  pub arity-asked : (b : Bool) → c .params ≡ params → b ≡ eqb (c .args) (qubits + c .controls) → b ≡ (eqb (c .params) params && eqb (c .args) (qubits + c .controls))
+  pub arity-asked : (b : Bool) → c .params ≡ params → b ≡ eqb (c .args) (qubits + c .controls) → b ≡ fitsArity c params qubits
   arity-asked b e f = f ∙ rw (eq-eqb (c .params) params e)
 
-  pub arity-unlike : (c .params ≡ params → ⊥) → false ≡ (eqb (c .params) params && eqb (c .args) (qubits + c .controls))
+  pub arity-unlike : (c .params ≡ params → ⊥) → false ≡ fitsArity c params qubits
   arity-unlike e = rw (ne-eqb (c .params) params e)
 
-  pub arity-fits : {t : List Text} (decl : Secondary) {s : Sink} {o : List ℕ} (b : Bool) → b ≡ (eqb (c .params) params && eqb (c .args) (qubits + c .controls)) → b ≡ true → SinkFits s → Emitted t (arityBy c params qubits (secondaryOf decl)) s o s o
+  pub arity-fits : {t : List Text} (decl : Secondary) {s : Sink} {o : List ℕ} (b : Bool) → b ≡ fitsArity c params qubits → b ≡ true → SinkFits s → Emitted t (arityBy c params qubits (secondaryOf decl)) s o s o
   arity-fits decl b is e f =
       let g = and-eq-true-iff (eqb (c .params) params) (eqb (c .args) (qubits + c .controls)) .0 (sym is ∙ e) in
       emitted-then (unless-holds _ _ (g .0) f) (unless-holds _ _ (g .1) f)
@@ -86,7 +86,7 @@ module _ (t : List Text) (c : Call) {text : List ℕ} (e : Shown text (nameAt t 
   unfolding standardBy
   standard-some p q k m = emitted-as m (ap (standardBy c) (sym k ∙ signature-is))
 
-  pub standard-fits : {s : Sink} {o : List ℕ} (p q : ℕ) (b : Bool) → f ≡ Signature.Standard p q → b ≡ (eqb (c .params) p && eqb (c .args) (q + c .controls)) → b ≡ true → SinkFits s → Emitted t (standardOf t c) s o s o
+  pub standard-fits : {s : Sink} {o : List ℕ} (p q : ℕ) (b : Bool) → f ≡ Signature.Standard p q → b ≡ fitsArity c p q → b ≡ true → SinkFits s → Emitted t (standardOf t c) s o s o
   standard-fits p q b k is h m = standard-some p q k (arity-fits c p q Secondary.None b is h m)
 
   pub standard-none : {s : Sink} {o : List ℕ} {r : Sink} {o′ : List ℕ} {d : DiagnosticValue} → f ≡ Signature.None → d ≡ errorOf (Message.GateNotDefined (c .name)) (c .span) → Reported t d s o r o′ → Emitted t (standardOf t c) s o r o′
@@ -103,5 +103,5 @@ module _ {t : List Text} (gs : Table GateSig) (c : Call) {s : Sink} {o : List �
   unfolding signatureBy
   defined sig k m = rw (← e, k, signatureBy) m
 
-  pub defined-fits : (sig : GateValue) (b : Bool) → f ≡ FoundGate.Some sig → b ≡ (eqb (c .params) (sig .«param_count») && eqb (c .args) (sig .«qubit_count» + c .controls)) → b ≡ true → SinkFits s → Emitted t (signatureBy t gs c) s o s o
+  pub defined-fits : (sig : GateValue) (b : Bool) → f ≡ FoundGate.Some sig → b ≡ fitsArity c (sig .«param_count») (sig .«qubit_count») → b ≡ true → SinkFits s → Emitted t (signatureBy t gs c) s o s o
   defined-fits sig b k is h m = defined sig k (arity-fits c _ _ (Secondary.Some (Note.DefinedHere (c .name)) (sig .«decl_span»)) b is h m)

@@ -3,6 +3,7 @@ use Prim.Native.Nat.{ℕ, _+_}
 use mathlib.Core.Path.{_≡_}
 use mathlib.Core.List.{List, [], _∷_, _++_, map}
 use mathlib.Core.Option.{Option, none, some}
+use mathlib.Core.Bool.{Bool, _&&_}
 use lib.ListN.{length, getD}
 use lib.Dec.{eqb}
 use Rattle.span.specs.declared.Span.{Span}
@@ -43,6 +44,10 @@ paramsBy c params note = unless (eqb (c .params) params) (noted (Messages.gatePa
 
 abbrev pub qubitsBy : Call → ℕ → Option (Note × Span) → List Diagnostic
 qubitsBy c qubits note = unless (eqb (c .args) (qubits + c .controls)) (noted (Messages.gateQubits (c .name) (qubits + c .controls) (c .args)) (c .span) note)
+
+-- as many of both as there should be
+abbrev pub fitsArity : Call → ℕ → ℕ → Bool
+fitsArity c params qubits = eqb (c .params) params && eqb (c .args) (qubits + c .controls)
 
 abbrev pub arityBy : Call → ℕ → ℕ → Option (Note × Span) → List Diagnostic
 arityBy c params qubits note = paramsBy c params note ++ qubitsBy c qubits note

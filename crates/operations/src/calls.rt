@@ -1,6 +1,5 @@
 // What a gate call says.
 ghost use mathlib.Core.Path.{_≡_};
-ghost use mathlib.Core.Bool.{_&&_};
 ghost use mathlib.Core.List.{[], _++_};
 ghost use Prim.Native.Nat.{_+_, _≤_, _<_};
 ghost use lib.ListN.{length, getD};
@@ -23,7 +22,7 @@ ghost use Rattle.lines.specs.Values.{secondaryOf, NoteBelow};
 ghost use Rattle.promises.specs.Emitted.{Emitted};
 ghost use Rattle.promises.specs.Typings.{plainContext};
 ghost use Rattle.promises.specs.Walks.{Walkable};
-ghost use Rattle.operations.specs.Calls.{CallOf, paramsBy, qubitsBy, arityBy, standardOf, signatureBy};
+ghost use Rattle.operations.specs.Calls.{CallOf, paramsBy, qubitsBy, fitsArity, arityBy, standardOf, signatureBy};
 use accepted::exprs::skip_exprs;
 use accepted::numbers::span_at;
 use accepted::numbers::u16_at;
@@ -155,10 +154,9 @@ fn check_qubit_count(
     lines::report(out, sink, tree, index, d)
 }
 
-// Are the parameters and the arguments as many as there should be? Of most calls they are, and nothing more is asked: the test stands
-// with each caller, since a struct that is passed on is stored first.
+// Are there as many parameters and arguments as there should be? Asked by each caller, before the call is passed on: most fit.
 fn fits_arity(call: Call, params: usize, qubits: usize) -> bool
-    ensures { λ r. ⌜ r ≡ (eqb (call .params) params && eqb (call .args) (qubits + call .controls)) ⌝ }
+    ensures { λ r. ⌜ r ≡ fitsArity call params qubits ⌝ }
 {
     if call.params == params {
         return is_arity(call.args, qubits, call.controls);

@@ -135,7 +135,7 @@ module _ (s : List ℕ) (n k : ℕ) (counted : textCount s 0 ≡ ok n k) where
 gathered-none : (s kinds : List ℕ) (n : ℕ) (r : Read) (m p : ℕ) → r ≡ Refused m p → length kinds ≡ 256 → r ≡ forget (texts s 0) → Gathered s kinds n r
 gathered-none s kinds n r m p g l e = record { answer = e; stored = λ k h. absurd (not-both h g); long = l }
 
--- a table that tells which slots were met: a checksum whose slot was not met is not among those that it tells of
+-- a checksum whose slot was not met is not among these
 abbrev pub Met : List ℕ → List ℕ → Type 0
 Met met sums = (x : ℕ) → getD met (slotOf x) 0 ≡ 0 → hasSum x sums ≡ false
 
@@ -230,7 +230,7 @@ module _ (s kinds sums met : List ℕ) (n i k : ℕ) (going : Going s kinds sums
               slots = length-set met slot 1 ∙ going .slots;
             }
 
-      -- where the slot was not met, no other is asked
+      -- where the slot was not met, the text is new
       pub going-new : (w slot : ℕ) → w ≡ checksum (take (next - (k + 1)) (drop (k + 1) s)) → slot ≡ slotOf w → slot < 1024 → getD met slot 0 ≡ 0 → Going s (set kinds i v) (set sums i w) (set met slot 1) n (i + 1) next
       going-new w slot u o p z = going-more false (no-sum _ (textsFrom s i 2) (rw (sym (going .summed), sym u) (going .known w (rw (sym o) z)))) refl w slot u o p
 
@@ -242,4 +242,4 @@ module _ (s kinds sums met : List ℕ) (n i k : ℕ) (going : Going s kinds sums
       let t : texts s 0 ≡ ok (textsFrom s i 2) k = going .remain ∙ rw z refl in
       record { answer = rw t; stored = λ m g. rw (t, sym j) (going .kept); long = going .long }
 
-pub ruleset gathering = (going-start, going-few, going-part, going-refused, going-within, going-again, going-more, going-new, going-end)
+pub ruleset gathering = (going-start, going-few, going-part, going-refused, going-again, going-more, going-new, going-end)

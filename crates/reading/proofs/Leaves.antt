@@ -17,10 +17,10 @@ use Rattle.text.proofs.Order.{le-or-lt}
 use Rattle.text.proofs.Clamp.{none-of}
 use Rattle.tree.proofs.Steps.{byte-in, byte-end, number-in, number-end}
 use Rattle.reading.proofs.Taken.{taken-ok, taken-not, byteKind}
-use Rattle.reading.specs.Answers.{forget, gaveByte, gaveNumber}
-use Rattle.reading.specs.declared.answers.Read.{Read}
+use Rattle.reading.specs.Answers.{gaveByte, gaveNumber, gaveSpan}
 use Rattle.reading.specs.declared.answers.ReadByte.{ReadByte}
 use Rattle.reading.specs.declared.answers.ReadNumber.{ReadNumber}
+use Rattle.reading.specs.declared.answers.ReadSpan.{ReadSpan}
 
 -- the bytes from a place to another begin with the first
 pub part-cons : (s : List ℕ) (k e : ℕ) → k < e → e ≤ length s → take (e - k) (drop k s) ≡ getD s k 0 ∷ take (e - (k + 1)) (drop (k + 1) s)
@@ -67,9 +67,15 @@ module _ (s : List ℕ) (at end : ℕ) where
           rw (z, pow-suc) (omega (arith, so .low));
     }
 
-    pub counting-end : end ≤ k → n ≡ value 0 (take (end - at) (drop at s))
+    pub counting-end : end ≤ k → (n ≡ value 0 (take (end - at) (drop at s))) × (n < 256 ^ (end - at))
     unfolding value
-    counting-end h = sym (so .remain ∙ rw (none-of s k end h) refl)
+    counting-end h =
+        let z : k ≡ end = omega (arith, so .within) in
+        (sym (so .remain ∙ rw (none-of s k end h) refl), rw z at (so .low))
+
+-- four bytes fit half the room
+pub four-fit : (at n : ℕ) → n < 256 ^ (at + 4 - at) → n < 4294967296
+four-fit at n h = let z : at + 4 - at ≡ 4 = omega arith in rw z at h
 
 pub ruleset counting = (counting-start, counting-mul, counting-add, counting-more, counting-end)
 
@@ -120,16 +126,19 @@ module _ (s : List ℕ) (at : ℕ) where
       unfolding gaveNumber
       number-read h l n f = let z : at + width - at ≡ width = omega arith in rw (number-in s at width (omega arith), f, z)
 
-    pub span-cut : left < 8 → Read.Refused 3 (length s) ≡ forget (span s at)
-    unfolding span _>>=_ bind forget
+    pub span-cut : left < 8 → ReadSpan.Refused 3 (length s) ≡ gaveSpan (span s at)
+    unfolding span _>>=_ bind gaveSpan
     span-cut c = go (le-or-lt (at + 4) (length s))
       where
-        go : (at + 4 ≤ length s) ⊎ (length s < at + 4) → Read.Refused 3 (length s) ≡ forget (span s at)
+        go : (at + 4 ≤ length s) ⊎ (length s < at + 4) → ReadSpan.Refused 3 (length s) ≡ gaveSpan (span s at)
         go (inl l) = let h : length s < at + 4 + 4 = omega arith in rw (number-in s at 4 l, number-end s (at + 4) 4 h)
         go (inr l) = rw (number-end s at 4 l)
 
-    pub span-passed : 8 ≤ left → Read.At (at + 8) ≡ forget (span s at)
-    unfolding span done _>>=_ bind forget
-    span-passed c = let z : at + 8 ≡ at + 4 + 4 = omega arith in rw (number-in s at 4 (omega arith), number-in s (at + 4) 4 (omega arith), z)
+    pub span-read : 8 ≤ left → (a b : ℕ) → a ≡ value 0 (take (at + 4 - at) (drop at s)) → b ≡ value 0 (take (at + 4 + 4 - (at + 4)) (drop (at + 4) s)) → ReadSpan.At (record { start = a; end = b }) (at + 4 + 4) ≡ gaveSpan (span s at)
+    unfolding span done _>>=_ bind gaveSpan
+    span-read c a b f g =
+        let z : at + 4 - at ≡ 4 = omega arith in
+        let w : at + 4 + 4 - (at + 4) ≡ 4 = omega arith in
+        rw (number-in s at 4 (omega arith), number-in s (at + 4) 4 (omega arith), f, g, z, w)
 
-pub ruleset leaves = (byte-ends, byte-here, case-refused, case-read, case-other, count-refused, count-read, count-over, number-cut, number-read, span-cut, span-passed)
+pub ruleset leaves = (byte-ends, byte-here, case-refused, case-read, case-other, count-refused, count-read, count-over, number-cut, number-read, four-fit, span-cut, span-read)

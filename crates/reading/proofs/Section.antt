@@ -13,7 +13,7 @@ use Rattle.tree.specs.Limits.{textLimit}
 use Rattle.tree.specs.Ans.{Ans, ok, refused, bind, _>>=_, _>>_, done, here, refuse, check}
 use Rattle.tree.specs.Read.{byte, bytes, within}
 use Rattle.tree.specs.Texts.{allowed, among, text, between, every, letter, digit, isName, isFloat, textAt, past}
-use Rattle.reading.specs.Answers.{forget, gaveByte}
+use Rattle.reading.specs.Answers.{forget, withValue, gaveByte}
 use Rattle.reading.specs.Section.{kindOf, kindRead}
 use Rattle.reading.specs.declared.answers.Read.{Read}
 use Rattle.reading.specs.declared.answers.Read.the-variants.{At, Refused}
@@ -89,7 +89,7 @@ unfolding isName every
 name-every [] e = refl
 name-every (c ∷ cs) e = let f = and-eq-true-iff (letter c) _ .0 e in rw (letter-allowed c (f .0)) (every-in _ _ later-allowed cs (f .1))
 
--- so the bytes of a name
+-- the bytes of a name are allowed
 name-allowed : (x : Text) (place : ℕ) (s : List ℕ) (at : ℕ) → kindOf x ≡ 1 → allowed x place s at ≡ ok tt at
 unfolding kindOf
 name-allowed x place s at e = go (bytes-judged x place s at)
@@ -155,6 +155,11 @@ module _ (s : List ℕ) (at n start : ℕ) (begun : byte s at ≡ ok n start) wh
     unfolding text among here check done bytes within _>>=_ _>>_ bind
     whole-is l = rw (begun, le-leb 1 n (omega arith), le-leb n textLimit few, le-leb (start + n) (length s) l)
 
+given-value : (v : ℕ) (x : Ans (Unit {0})) → gaveByte (bind x (λ u next. ok v next)) ≡ withValue v (forget x)
+unfolding gaveByte bind withValue forget
+given-value v (ok u k) = refl
+given-value v (refused m p) = refl
+
 -- a text whose length byte was read
 module _ (s : List ℕ) (at : ℕ) (a : ReadByte) (read : a ≡ gaveByte (byte s at)) where
   pub text-refused : (m p : ℕ) → a ≡ ReadByte.Refused m p → a ≡ gaveByte (kindRead s at)
@@ -194,24 +199,7 @@ module _ (s : List ℕ) (at : ℕ) (a : ReadByte) (read : a ≡ gaveByte (byte s
         unfolding bind gaveByte
         text-name o = sym (judged ∙ rw (name-allowed _ start s (start + width) (sym h ∙ o)) refl)
 
-        module _ (b : Read) (i : b ≡ forget (allowed (take (start + width - start) (drop start s)) start s (start + width))) where
-          pub text-good : (next : ℕ) → b ≡ At next → ReadByte.At v next ≡ gaveByte (kindRead s at)
-          unfolding bind gaveByte forget
-          text-good next o = sym (judged ∙ go (allowed (take (start + width - start) (drop start s)) start s (start + width)) (sym o ∙ i))
-            where
-              go : (x : Ans (Unit {0})) → At next ≡ forget x → gaveByte (bind x (λ u next. ok v next)) ≡ ReadByte.At v next
-              go (ok u k) j = let z : next ≡ k = cc in rw z
-              go (refused m p) j = absurd (not-both refl j)
+        pub text-rest : (b : Read) (r : ReadByte) → b ≡ forget (allowed (take (start + width - start) (drop start s)) start s (start + width)) → r ≡ withValue v b → r ≡ gaveByte (kindRead s at)
+        text-rest b r i o = o ∙ rw i (sym (judged ∙ given-value v (allowed (take (start + width - start) (drop start s)) start s (start + width))))
 
-          pub text-bad : (m p : ℕ) → b ≡ Refused m p → ReadByte.Refused m p ≡ gaveByte (kindRead s at)
-          unfolding bind gaveByte forget
-          text-bad m p o = sym (judged ∙ go (allowed (take (start + width - start) (drop start s)) start s (start + width)) (sym o ∙ i))
-            where
-              go : (x : Ans (Unit {0})) → Refused m p ≡ forget x → gaveByte (bind x (λ u next. ok v next)) ≡ ReadByte.Refused m p
-              go (ok u k) j = absurd (not-both j refl)
-              go (refused n q) j =
-                  let z : m ≡ n = cc in
-                  let y : p ≡ q = cc in
-                  rw (z, y)
-
-pub ruleset one-text = (text-refused, text-empty, text-long, text-cut, text-name, text-good, text-bad)
+pub ruleset one-text = (text-refused, text-empty, text-long)

@@ -1,12 +1,14 @@
 -- What the code's answers tell of the reader's answer: the laws over the kinds of answers, and the kinds. Assumes nothing.
 use Prim.Native.Nat.{ℕ}
 use mathlib.Core.Path.{_≡_, refl, sym, ap, _∙_}
+use Rattle.span.specs.declared.Span.{Span}
 use Rattle.tree.specs.Ans.{Ans, ok, refused}
-use Rattle.reading.specs.Answers.{forget, gaveByte, gaveNumber, gaveText, byteAnswer, numberAnswer, textAnswer}
+use Rattle.reading.specs.Answers.{forget, withValue, gaveByte, gaveNumber, gaveText, gaveSpan, byteAnswer, numberAnswer, textAnswer, spanAnswer}
 use Rattle.reading.specs.declared.answers.Read.{Read}
 use Rattle.reading.specs.declared.answers.ReadByte.{ReadByte}
 use Rattle.reading.specs.declared.answers.ReadNumber.{ReadNumber}
 use Rattle.reading.specs.declared.answers.ReadText.{ReadText}
+use Rattle.reading.specs.declared.answers.ReadSpan.{ReadSpan}
 
 -- an enum `E` of the code, made of a reader's answer by `gave`, which `back` undoes
 pub record Undone {A E : Type 0} (gave : Ans A → E) (back : E → Ans A) (At : A → ℕ → E) (Refused : ℕ → ℕ → E) : Type 0 where
@@ -83,6 +85,13 @@ text-undone = record { gave-ok = λ v k. refl; gave-refused = λ m p. refl; back
 abbrev pub textKind : Kind ℕ ReadText
 textKind = record { gave = gaveText; back = textAnswer; At = ReadText.At; Refused = ReadText.Refused; undone = text-undone }
 
+pub span-undone : Undone gaveSpan spanAnswer ReadSpan.At ReadSpan.Refused
+unfolding gaveSpan spanAnswer
+span-undone = record { gave-ok = λ v k. refl; gave-refused = λ m p. refl; back-at = λ v k. refl; back-refused = λ m p. refl }
+
+abbrev pub spanKind : Kind Span ReadSpan
+spanKind = record { gave = gaveSpan; back = spanAnswer; At = ReadSpan.At; Refused = ReadSpan.Refused; undone = span-undone }
+
 -- an answer that is handed on, for each kind that `search` meets
 abbrev Left : {A E : Type 0} → Kind A E → Type 0
 Left {A} {E} K = (a : E) (x : Ans A) → a ≡ K .gave x → (r : Read) → r ≡ forget (K .back a) → r ≡ forget x
@@ -92,6 +101,19 @@ byte-left = taken-left byteKind
 
 pub number-left : Left numberKind
 number-left = taken-left numberKind
+
+pub span-left : Left spanKind
+span-left = taken-left spanKind
+
+-- a place with a value
+module _ (v : ℕ) (a : Read) where
+  pub value-at : (k : ℕ) → a ≡ Read.At k → ReadByte.At v k ≡ withValue v a
+  unfolding withValue
+  value-at k e = rw e
+
+  pub value-refused : (m p : ℕ) → a ≡ Read.Refused m p → ReadByte.Refused m p ≡ withValue v a
+  unfolding withValue
+  value-refused m p e = rw e
 
 -- a number as the number of a text
 module _ (a : ReadNumber) where

@@ -71,7 +71,7 @@ unfoldable pub hasSum : ℕ → List ℕ → Bool
 hasSum x [] = false
 hasSum x (y ∷ ys) = eqb x y || hasSum x ys
 
--- the place of a checksum in a table of 1,024: of a product of 32 bits the first ten
+-- the slot of a checksum, one of 1,024: of a product's last 32 bits the first ten
 abbrev pub slotOf : ℕ → ℕ
 slotOf x = (x % 2 ^ 32 + x / 2 ^ 32) % 2 ^ 32 * 2654435769 / 2 ^ 22 % 1024
 

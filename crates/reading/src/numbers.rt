@@ -2,14 +2,16 @@
 use crate::answers::Read;
 use crate::answers::ReadByte;
 use crate::answers::ReadNumber;
+use crate::answers::ReadSpan;
+use span::Span;
 use text::wide;
 ghost use mathlib.Core.Path.{_≡_};
-ghost use Prim.Native.Nat.{_≤_, _<_, _+_, _-_};
+ghost use Prim.Native.Nat.{_≤_, _<_, _+_, _-_, _^_};
 ghost use lib.ListN.{length, take, drop};
 ghost use Rattle.text.specs.Big.{value};
 ghost use Rattle.tree.specs.Read.{byte, number, u16, u64, span, caseByte, option, count};
 ghost use Rattle.tree.specs.Stmts.{slice};
-ghost use Rattle.reading.specs.Answers.{forget, gaveByte, gaveNumber};
+ghost use Rattle.reading.specs.Answers.{forget, gaveByte, gaveNumber, gaveSpan};
 
 const VEC_LIMIT: u8 = 16;
 
@@ -72,7 +74,7 @@ pub(crate) fn bytes_from(s: &[u8], at: usize) -> usize
 // The number from one place to another, at most eight bytes: the first counts most.
 fn number_at(s: &[u8], at: usize, end: usize) -> u64
     requires { ⌜ (at ≤ end) × (end ≤ at + 8) × (end ≤ length (now s)) ⌝ }
-    ensures { λ r. ⌜ r ≡ value 0 (take (end - at) (drop at (now (s .entry)))) ⌝ }
+    ensures { λ r. ⌜ (r ≡ value 0 (take (end - at) (drop at (now (s .entry))))) × (r < 256 ^ (end - at)) ⌝ }
 {
     let mut n: u64 = 0;
     let mut k = at;
@@ -107,14 +109,24 @@ pub fn read_u64(s: &[u8], at: usize) -> ReadNumber
     read_number(s, at, 8)
 }
 
-// A span, of which the numbers are not asked for.
+fn read_span(s: &[u8], at: usize) -> ReadSpan
+    ensures { λ r. ⌜ r ≡ gaveSpan (span (now (s .entry)) at) ⌝ }
+{
+    if bytes_from(s, at) < 8 {
+        return ReadSpan::Refused(3, s.len());
+    }
+    let middle = at + 4;
+    let next = middle + 4;
+    let start = number_at(s, at, middle) as u32;
+    let end = number_at(s, middle, next) as u32;
+    ReadSpan::At(Span { start, end }, next)
+}
+
+// A span that is only passed over. Compiled, its numbers are not worked out.
 pub fn pass_span(s: &[u8], at: usize) -> Read
     ensures { λ r. ⌜ r ≡ forget (span (now (s .entry)) at) ⌝ }
 {
-    if bytes_from(s, at) < 8 {
-        return Read::Refused(3, s.len());
-    }
-    Read::At(at + 8)
+    read_span(s, at).into_read()
 }
 
 pub fn read_optional_u64(s: &[u8], at: usize) -> Read

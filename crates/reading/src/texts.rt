@@ -27,14 +27,16 @@ pub const TEXTS_LIMIT: usize = 256;
 
 const TEXT_LIMIT: u8 = 64;
 
-// A table says which checksums were met, by their slots: 2^10 places, the first ten of 32 bits.
+// A table of 2^10 slots says which checksums were met.
 const SLOTS: usize = 1024;
 
+// 2^22: of 32 bits it leaves the first ten.
 const FIRST_BITS: u64 = 4194304;
 
+// 2^32.
 const HALF: u64 = 4294967296;
 
-// HALF's golden section, by which near numbers are spread over the whole.
+// The golden section of 2^32: it spreads near numbers.
 const SPREAD: u64 = 2654435769;
 
 // The bytes of texts.
@@ -133,7 +135,7 @@ fn has_sum(sums: &[u64], sum: u64) -> bool
     found
 }
 
-// The place of a checksum in a table: of a product of 32 bits the first ten.
+// The slot of a checksum: of a product's last 32 bits the first ten.
 fn slot_of(sum: u64) -> usize
     ensures { λ r. ⌜ (r ≡ slotOf sum) × (r < 1024) ⌝ }
 {
@@ -187,11 +189,7 @@ fn read_text(s: &[u8], at: usize) -> ReadByte
     if kind == spelling::NAME {
         return ReadByte::At(kind, end); // the bytes of a name are allowed
     }
-    let b = read_allowed(s, start, end);
-    match b {
-        Read::At(next) => ReadByte::At(kind, next),
-        Read::Refused(number, place) => ReadByte::Refused(number, place),
-    }
+    read_allowed(s, start, end).with_value(kind)
 }
 
 // How many texts there are.

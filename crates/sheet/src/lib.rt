@@ -62,7 +62,7 @@ fn index_head(x: usize) -> u64
 
 // The place of number k where it has one and is the key, or else the one that was met before.
 fn met(index: &Index, k: usize, place: u16, head: u64, i: u64, before: u16) -> u16
-    requires { ⌜ (length (now index) ≡ 768) × (k < 256) ⌝ }
+    requires { ⌜ k < 256 ⌝ }
     ensures { λ r. ⌜ r ≡ first (cond (sameKey (keyAt (now (index .entry)) k) (keyBy head i)) place 0) before ⌝ }
 {
     if place == 0 {
@@ -157,7 +157,7 @@ fn nearer(i: u64, place: u16, best: Covered) -> Covered
 
 // The smallest index so far, key number k taken in where it is of the slice and has a place.
 fn offered(index: &Index, k: usize, x: usize, a: u64, b: u64, place: u16, best: Covered) -> Covered
-    requires { ⌜ (length (now index) ≡ 768) × (k < 256) ⌝ }
+    requires { ⌜ k < 256 ⌝ }
     ensures { λ r. ⌜ r ≡ cond (eqb (keyAt (now (index .entry)) k .name) x && inSlice (a, b) (keyAt (now (index .entry)) k .index)) (offer (keyAt (now (index .entry)) k .index) place best) best ⌝ }
 {
     if place == 0 {

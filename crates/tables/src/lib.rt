@@ -210,7 +210,7 @@ pub fn get(scratch: &[u8], depth: usize, x: usize) -> FoundSymbol
     FoundSymbol::None
 }
 
-// The symbol of a name in the innermost scope. Most names that are asked for have none there.
+// The symbol of a name in the innermost scope. Most names have none there: the code is looked at before a symbol is read.
 pub fn get_current(scratch: &[u8], depth: usize, x: usize) -> FoundSymbol
     requires { ⌜ (65536 ≤ length (now scratch)) × (0 < depth) × (depth ≤ 9) × (x < 256) ⌝ }
     ensures { λ r. ⌜ foundOf r ≡ getCurrent (scopesOf (now (scratch .entry)) depth) x ⌝ }

@@ -17,12 +17,12 @@ pub enum Answer {
 }
 
 // The length of the first line.
-fn head_size(errors: usize, warnings: usize) -> usize
-    requires { ⌜ (errors ≤ 256) × (warnings ≤ 256) ⌝ }
-    ensures { λ r. ⌜ (r ≡ length (headOf errors warnings)) × (r ≤ 1024) ⌝ }
+fn head_size(sink: Sink) -> usize
+    requires { ⌜ (sink .errors ≤ 256) × (sink .warnings ≤ 256) ⌝ }
+    ensures { λ r. ⌜ (r ≡ length (headOf (sink .errors) (sink .warnings))) × (r ≤ 1024) ⌝ }
 {
     let mut none = [0u8; 1];
-    lines::first_line(&mut none, errors, warnings)
+    lines::first_line(&mut none, sink.errors, sink.warnings)
 }
 
 // By the counts and the length of the lines, for a listing buffer of so many bytes.
@@ -38,7 +38,7 @@ pub fn judge(sink: Sink, room: usize) -> Answer
     if 256 < count {
         return Answer::Refused(8, 0);
     }
-    let size = head_size(errors, warnings) + n;
+    let size = head_size(sink) + n;
     if room < size {
         return Answer::Refused(9, 0);
     }
@@ -60,8 +60,6 @@ pub fn write_staged(stage: &[u8], listing: &mut [u8], sink: Sink)
     ensures { λ _. ⌜ now (listing .exit) ≡ sets (sets (now (listing .entry)) 0 (headOf (sink .errors) (sink .warnings))) (length (headOf (sink .errors) (sink .warnings))) (take (sink .n) (now (stage .entry))) ⌝ }
 {
     let n = sink.n as usize;
-    let errors = sink.errors as usize;
-    let warnings = sink.warnings as usize;
-    let after = lines::first_line(listing, errors, warnings);
+    let after = lines::first_line(listing, sink.errors, sink.warnings);
     bytes::copy(&stage[..n], &mut listing[after..]);
 }

@@ -11,12 +11,12 @@ met-spec =
     (λ c. search needs)  -- mul-same-key
     (λ c. search needs)  -- add-same-key
     (λ c. search needs)  -- mul-same-key-2
-    (λ c. search needs)  -- shared-slice-read-same-key
+    (λ c. search needs)  -- element-copy-out-same-key
     (λ c. search needs)  -- mul-same-key-3
     (λ c. search needs)  -- add-same-key-2
     (λ c. search needs)  -- add-same-key-3
     (λ c. search needs)  -- mul-same-key-4
-    (λ c. search needs)  -- shared-slice-read-same-key-2
+    (λ c. search needs)  -- element-copy-out-same-key-2
     (λ c κs. search needs)  -- same-key-requires
     (λ c. search meeting)  -- returns-2
     (λ c. search meeting))  -- returns-3

@@ -11,12 +11,12 @@ offered-spec =
     (λ c. search needs)  -- mul-head
     (λ c. search needs)  -- add-head
     (λ c. search needs)  -- mul-head-2
-    (λ c. search needs)  -- shared-slice-read-head
+    (λ c. search needs)  -- element-copy-out-head
     (λ c. search needs)  -- mul-i
     (λ c. search needs)  -- add-i
     (λ c. search needs)  -- add-i-2
     (λ c. search needs)  -- mul-i-2
-    (λ c. search needs)  -- shared-slice-read-i
+    (λ c. search needs)  -- element-copy-out-i
     (λ c κs. search needs)  -- within-requires
     (λ c κs. search needs)  -- nearer-requires
     (λ c. search offers)  -- returns-2

@@ -29,12 +29,12 @@ store-spec =
     (λ c. search needs)  -- mul-touched
     (λ c. search needs)  -- add-touched
     (λ c. search needs)  -- mul-touched-2
-    (λ c. search needs)  -- shared-slice-read-touched
+    (λ c. search needs)  -- element-copy-out-touched
     (λ c. search needs)  -- mul-touched-3
     (λ c. search needs)  -- add-touched-2
     (λ c. search needs)  -- add-touched-3
     (λ c. search needs)  -- mul-touched-4
-    (λ c. search needs)  -- shared-slice-read-touched-2
+    (λ c. search needs)  -- element-copy-out-touched-2
     (λ c κs. search needs)  -- touched-requires
     (λ c. search needs)  -- mul-sheet
     (λ c. search needs)  -- element-write-sheet

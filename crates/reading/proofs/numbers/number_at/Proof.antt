@@ -1,6 +1,6 @@
 -- `reading::numbers::number_at` meets its contract. Assumes nothing.
 use Prim.Native.Nat.{_-_}
-use Rattle.reading.proofs.Leaves.{Counting, counting}
+use Rattle.reading.proofs.Leaves.{Counting, counting, counting-end}
 use borrow.Author.Needs.{needs}
 use Rattle.reading.proofs.numbers.number_at.Statement.{statement}
 use Rattle.reading.proofs.numbers.number_at.Tie as tie
@@ -22,4 +22,4 @@ number-at-spec =
     (λ c. search needs)  -- add-k
     (λ c. search needs)  -- loop-less
     (λ c. search (counting, needs))  -- loop-again
-    (λ c. search (counting, needs)))  -- returns
+    (λ c. counting-end _ _ _ _ _ (c .before .loop .inv) (search needs)))  -- returns

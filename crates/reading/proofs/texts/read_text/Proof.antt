@@ -1,5 +1,5 @@
 -- `reading::texts::read_text` meets its contract. Assumes nothing.
-use Rattle.reading.proofs.Section.{one-text, text-cut, text-name, text-good, text-bad}
+use Rattle.reading.proofs.Section.{one-text, text-cut, text-name, text-rest}
 use borrow.Author.Needs.{needs}
 use Rattle.reading.proofs.texts.read_text.Statement.{statement}
 use Rattle.reading.proofs.texts.read_text.Tie as tie
@@ -23,7 +23,5 @@ read-text-spec =
     (λ c κs. search needs)  -- kind-requires
     (λ c. let law = text-name _ _ _ (c .before .before .before .before .before .before .before .before .before .before .before .read-byte .ensures) _ _ (c .before .before .before .before .before .before .before .before .before .a .given .1) in search (law, needs))  -- returns-5
     (λ c κs. search needs)  -- read-allowed-requires
-    (λ c. search needs)  -- enum-known-b
-    (λ c. search needs)  -- enum-known-b-2
-    (λ c. let law = text-good _ _ _ (c .before .before .before .before .before .before .before .before .before .before .before .before .before .before .before .read-byte .ensures) _ _ (c .before .before .before .before .before .before .before .before .before .before .before .before .before .a .given .1) in search (law, needs))  -- returns-6
-    (λ c. let law = text-bad _ _ _ (c .before .before .before .before .before .before .before .before .before .before .before .before .before .before .before .read-byte .ensures) _ _ (c .before .before .before .before .before .before .before .before .before .before .before .before .before .a .given .1) in search (law, needs)))  -- returns-7
+    (λ c κs. search needs)  -- with-value-requires
+    (λ c. let law = text-rest _ _ _ (c .before .before .before .before .before .before .before .before .before .before .before .before .before .read-byte .ensures) _ _ (c .before .before .before .before .before .before .before .before .before .before .before .a .given .1) in search (law, needs)))  -- returns-6
