@@ -21,7 +21,7 @@ use Rattle.accepted.specs.Cases.{boolOf, constKindOf, binOpOf, compareOp
 use Rattle.accepted.specs.Parts.{valueOr, next-is, end-in, Goes, field, known, past, ends}
 use Rattle.accepted.specs.Fields.{number-is, span-is, one-is, text-in-at, text-below, text-is, repeat-first, repeat-rest, repeat-is}
 use Rattle.accepted.specs.Ends.{Moves, seq-moves, last-moves, number-moves, span-moves, one-moves, text-moves, counted-moves, none-left, and, each-moves, refuse-moves}
-use Rattle.accepted.specs.Levels.{level-in, level-below, level-left, level-goes, level-moves, level-end}
+use Rattle.accepted.specs.Levels.{level-in, level-below, level-left, level-goes, level-moves, level-forward, level-end}
 
 module _ (s : List ℕ) (at : ℕ) where
   bool-is : IsOk (bool s at) → bool s at ≡ ok (boolOf (getD s at 0)) (at + 1)
@@ -76,6 +76,9 @@ expr-moves t = level-moves (expr-levels t) (cases-move t)
 
 pub expr-end : (t : List Text) (left : ℕ) (s : List ℕ) (at : ℕ) → IsOk (expr t left s at) → nextOf (expr t left s at) ≤ length s
 expr-end t = level-end (expr-levels t) (cases-move t)
+
+pub expr-forward : (t : List Text) (left : ℕ) (s : List ℕ) (at : ℕ) → IsOk (expr t left s at) → at ≤ nextOf (expr t left s at)
+expr-forward t = level-forward (expr-levels t) (cases-move t)
 
 -- two operands and the span, behind an operator
 abbrev operands : (Expr → Expr → Span → Expr) → Reader Expr → Reader Expr

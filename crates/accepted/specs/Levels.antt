@@ -36,5 +36,12 @@ module _ {A : Type 0} {cases : ℕ} {arm : Reader A → ℕ → ℕ → Reader A
     level-moves zero = rw (L .none) (choice-moves cases _ (λ place c. refuse-moves 6 place))
     level-moves (suc left) = rw (L .more left) (choice-moves cases _ (m (f left) (level-moves left)))
 
-    pub level-end : (left : ℕ) (s : List ℕ) (at : ℕ) → IsOk (f left s at) → nextOf (f left s at) ≤ length s
-    level-end left s at h = let i = level-in left s at h in let l : at ≤ length s = omega arith in level-moves left .moves s at l h .1
+    module _ (left : ℕ) (s : List ℕ) (at : ℕ) (h : IsOk (f left s at)) where
+      within : at ≤ length s
+      within = let i = level-in left s at h in omega arith
+
+      pub level-forward : at ≤ nextOf (f left s at)
+      level-forward = level-moves left .moves s at within h .0
+
+      pub level-end : nextOf (f left s at) ≤ length s
+      level-end = level-moves left .moves s at within h .1

@@ -22,7 +22,7 @@ use Rattle.reading.proofs.Taken.{taken-ok, taken-not, byteKind}
 use Rattle.text.proofs.Order.{le-or-lt}
 use Rattle.text.proofs.Clamp.{none-of}
 use Rattle.reading.proofs.Leaves.{part-cons}
-use Rattle.reading.proofs.Values.{not-both, bind-into}
+use Rattle.reading.proofs.Values.{bind-into}
 use Rattle.reading.proofs.Spelled.{letter-below, letter-above, digit-below, digit-above, name-kind}
 
 -- an allowed byte

@@ -90,15 +90,17 @@ args-count t left s (suc n) k h =
     let e = value-is (of.args-is t left s (suc n) k h l next refl) noExpr in
     ap exprCount e ∙ ap suc (rw sub-one (args-count t left s n next r))
 
--- the arguments from number i on stand from k on, and what is said of them is still to be said
+-- the arguments from number i on stand from k on, behind the count, and what is said of them is still to be said
 pub record Arguing (t : List Text) (ss : Symbols) (fs : Table FunctionSig) (left : ℕ) (tree : List ℕ) (at x : ℕ) (ps : List ClassicalType) (n : ℕ) (s₀ : Sink) (o₀ : List ℕ) (k i : ℕ) (s : Sink) (o : List ℕ) : Type 0 where
   pub remains : Remains noExpr moreExpr (expr t left) tree (nextOf (exprs (expr t left) tree at)) (n - i) k
+  pub past : at < k
   pub owes : Owes t (given [] (λ es. checkArguments ss fs es x 0 ps) (exprs (expr t left) tree at)) s₀ o₀ (checkArguments ss fs (valueOr noExpr (repeat noExpr moreExpr (expr t left) (n - i) tree k)) x i (drop i ps)) s o
 
 module _ {t : List Text} {ss : Symbols} {fs : Table FunctionSig} {left : ℕ} {tree : List ℕ} {at x : ℕ} {ps : List ClassicalType} {n : ℕ} {s₀ : Sink} {o₀ : List ℕ} where
   pub arguing-start : n ≡ getD tree at 0 → IsOk (exprs (expr t left) tree at) → SinkFits s₀ → Arguing t ss fs left tree at x ps n s₀ o₀ (at + 1) 0 s₀ o₀
   arguing-start e h f = record {
     remains = rw (sub-zero n) (remains-start noExpr moreExpr (expr t left) tree at n h e);
+    past = omega arith;
     owes = owes-as (owes-start f) (given-ok noExpr [] (λ es. checkArguments ss fs es x 0 ps) (exprs (expr t left) tree at) h ∙ rw (sub-zero n, e, ← counted-is tree at noExpr moreExpr (expr t left) h));
   }
 
@@ -119,6 +121,7 @@ module _ {t : List Text} {ss : Symbols} {fs : Table FunctionSig} {left : ℕ} {t
         let one = emitted-as (emitted-then (f .emitted) q) (ap (λ d. checkExpr ss fs e .says ++ d) told) in
         record {
           remains = rw less at (remains-more (a .remains) m (p .next));
+          past = omega (arith, a .past, p .next, of.expr-forward t left tree k h);
           owes = rw (add-one i, ← rest-drop i ps) (rw (less, add-one i) at (owes-more (owes-as (a .owes) (ap (λ es. checkArguments ss fs es x i (drop i ps)) all)) one));
         }
 

@@ -8,7 +8,7 @@ use Rattle.context.specs.View.{scopesOf, functionsOf}
 use Rattle.tables.specs.Tables.{paramsOf}
 use Rattle.text.proofs.Unlike.{unlike}
 use Rattle.accepted.specs.Fields.{counted-in}
-use Rattle.accepted.specs.Exprs.{expr-in, expr-left, intLit-inside, floatLit-inside, boolLit-inside, ident-inside, ident-name, index-inside, index-name, call-name, call-name-in, call-args, call-inside, const-inside, neg-inner, neg-inside, operation, pair-lhs, pair-rhs, pair-inside}
+use Rattle.accepted.specs.Exprs.{expr-in, expr-left, expr-forward, intLit-inside, floatLit-inside, boolLit-inside, ident-inside, ident-name, index-inside, index-name, call-name, call-name-in, call-args, call-inside, const-inside, neg-inner, neg-inside, operation, pair-lhs, pair-rhs, pair-inside}
 use Rattle.typing.proofs.Names.{name-below}
 use Rattle.accepted.specs.Spans.{span-room, span-in}
 use Rattle.typing.proofs.Exprs.{int-typing, float-typing, bool-typing, const-typing, ident-typing, index-typing, neg-typing, pair-typing}
@@ -29,13 +29,13 @@ use Rattle.typing.proofs.+check_arguments+check_call+check_expr.{statem
 use Rattle.typing.proofs.+check_arguments+check_call+check_expr.Tie.{close}
 
 abbrev μ-check-arguments : Measures 4 check-arguments-lts.ps ℕ
-μ-check-arguments κs a = 3 * a .1 .1 .1 .1 .1 .1 .0 + 2
+μ-check-arguments κs a = 2 * (length (a .0 .now) - a .1 .1 .1 .1 .1 .0)
 
 abbrev μ-check-call : Measures 4 check-call-lts.ps ℕ
-μ-check-call κs a = 3 * a .1 .1 .1 .1 .1 .1 .0
+μ-check-call κs a = 2 * (length (a .0 .now) - a .1 .1 .1 .1 .1 .0)
 
 abbrev μ-check-expr : Measures 4 check-expr-lts.ps ℕ
-μ-check-expr κs a = 3 * a .1 .1 .1 .1 .1 .1 .0 + 1
+μ-check-expr κs a = 2 * (length (a .0 .now) - a .1 .1 .1 .1 .1 .0) + 1
 
 abbrev check-arguments-Inv-loop : check-arguments-lts.InvT-loop
 check-arguments-Inv-loop tree index scratch out₀ depth at left x params n k₀ i₀ s₀ out k i s = Arguing (textsOf tree) (scopesOf scratch depth) (functionsOf scratch) left tree at x (paramsOf (functionsOf scratch x)) n s₀ out₀ k i s out × (length out ≡ length out₀)
@@ -69,7 +69,7 @@ module _ (t : ℕ) where
   check-arguments-asks Need = Need check-arguments-calls check-arguments-at check-arguments.Post check-arguments-Inv-loop check-arguments-μ-loop
 
   check-arguments-check-expr-requires : check-arguments-asks check-arguments-lts.Need-check-expr-requires
-  check-arguments-check-expr-requires c κs = (omega arith, (c .before .before .before .before .before .before .before .before .pre .1 .0, c .before .before .loop .inv .0 .owes .fits, arguing-first (c .before .before .loop .inv .0) (c .before .loop-test .taken)))
+  check-arguments-check-expr-requires c κs = let g = c .before .before .loop .inv .0 in let i = expr-in _ _ _ _ (arguing-first g (c .before .loop-test .taken)) in (omega (arith, g .past), (c .before .before .before .before .before .before .before .before .pre .1 .0, g .owes .fits, arguing-first g (c .before .loop-test .taken)))
 
   check-arguments-check-argument-requires : check-arguments-asks check-arguments-lts.Need-check-argument-requires
   check-arguments-check-argument-requires c κs = let p = c .before .before .before .before .before .before .before .before .before .before .before .before .pre .1 in let h = arguing-first (c .before .before .before .before .before .before .loop .inv .0) (c .before .before .before .before .before .loop-test .taken) in let e = c .before .before .before .check-expr .ensures .next in (p .0 .texts, p .0 .room, c .before .before .before .check-expr .ensures .emitted .fits, p .2, p .3, span-room _ _ _ _ h _ e, span-in _ _ _ _ h _ e)
@@ -110,7 +110,7 @@ module _ (t : ℕ) where
   check-call-sub-check-arguments c = let l = expr-left _ _ _ _ (c .before .before .before .before .before .before .before .before .before .before .before .before .before .before .pre .1 .2) in omega arith
 
   check-call-check-arguments-requires : check-call-asks check-call-lts.Need-check-arguments-requires
-  check-call-check-arguments-requires c κs = let p = c .before .before .before .before .before .before .before .before .before .before .before .before .before .before .pre .1 in let l = expr-left _ _ _ _ (p .2) in (omega arith, (p .0, c .before .before .before .before .check-callee .ensures .emitted .fits, name-below (c .before .before .before .before .before .before .before .before .before .before .u16-at .ensures .0) (call-name _ _ _ _ (p .2) (p .3)), c .before .before .before .before .check-callee .ensures .params, call-args _ _ _ _ (p .2) (p .3)))
+  check-call-check-arguments-requires c κs = let p = c .before .before .before .before .before .before .before .before .before .before .before .before .before .before .pre .1 in let i = call-name-in _ _ _ _ (p .2) (p .3) in (omega arith, (p .0, c .before .before .before .before .check-callee .ensures .emitted .fits, name-below (c .before .before .before .before .before .before .before .before .before .before .u16-at .ensures .0) (call-name _ _ _ _ (p .2) (p .3)), c .before .before .before .before .check-callee .ensures .params, call-args _ _ _ _ (p .2) (p .3)))
 
   check-call-returns : check-call-asks check-call-lts.Need-returns
   check-call-returns c = let p = c .before .before .before .before .before .before .before .before .before .before .before .before .before .before .before .before .before .pre .1 in call-typing _ _ _ _ _ _ (p .2) (p .3) (c .before .before .before .before .before .before .before .before .before .before .before .before .before .u16-at .ensures .0) (c .before .before .before .before .before .before .before .before .before .before .before .before .skip-exprs .ensures) (c .before .before .before .before .before .before .before .before .before .before .before .span-at .ensures) (c .before .before .before .before .before .before .before .before .before .wide .ensures .0) (c .before .before .before .before .before .before .before .check-callee .ensures) (c .before .before .check-arguments .ensures)
@@ -146,16 +146,16 @@ module _ (t : ℕ) where
   check-expr-check-index-requires c κs = let p = c .before .before .before .before .before .before .pre .1 in (p .0, p .1, index-inside _ _ _ _ (p .2) (c .before .match .keys5), index-name _ _ _ _ (p .2) (c .before .match .keys5))
 
   check-expr-check-expr-requires : check-expr-asks check-expr-lts.Need-check-expr-requires
-  check-expr-check-expr-requires c κs = let p = c .before .before .before .before .before .before .pre .1 in let l = expr-left _ _ _ _ (p .2) in (omega arith, (p .0, p .1, neg-inner _ _ _ _ (p .2) (c .before .match .keys8)))
+  check-expr-check-expr-requires c κs = let p = c .before .before .before .before .before .before .pre .1 in let i = expr-in _ _ _ _ (p .2) in (omega arith, (p .0, p .1, neg-inner _ _ _ _ (p .2) (c .before .match .keys8)))
 
   check-expr-negation-requires : check-expr-asks check-expr-lts.Need-negation-requires
   check-expr-negation-requires c κs = let p = c .before .before .before .before .before .before .before .before .before .before .pre .1 in (p .0 .texts, c .before .before .before .check-expr .ensures .emitted .fits, neg-inside _ _ _ _ (p .2) (c .before .before .before .before .before .match .keys8) _ (c .before .before .before .check-expr .ensures .next))
 
   check-expr-check-expr-requires-2 : check-expr-asks check-expr-lts.Need-check-expr-requires-2
-  check-expr-check-expr-requires-2 c κs = let p = c .before .before .before .before .before .before .pre .1 in let l = expr-left _ _ _ _ (p .2) in (omega arith, (p .0, p .1, pair-lhs _ _ _ _ (p .2) (operation _ _ _ _ (p .2) (unlike 8 _ (c .before .match .rest)))))
+  check-expr-check-expr-requires-2 c κs = let p = c .before .before .before .before .before .before .pre .1 in let i = expr-in _ _ _ _ (p .2) in (omega arith, (p .0, p .1, pair-lhs _ _ _ _ (p .2) (operation _ _ _ _ (p .2) (unlike 8 _ (c .before .match .rest)))))
 
   check-expr-check-expr-requires-3 : check-expr-asks check-expr-lts.Need-check-expr-requires-3
-  check-expr-check-expr-requires-3 c κs = let p = c .before .before .before .before .before .before .before .before .before .before .before .pre .1 in let l = expr-left _ _ _ _ (p .2) in (omega arith, (p .0, c .before .before .before .before .check-expr2 .ensures .emitted .fits, pair-rhs _ _ _ _ (p .2) (operation _ _ _ _ (p .2) (unlike 8 _ (c .before .before .before .before .before .before .match .rest))) _ (c .before .before .before .before .check-expr2 .ensures .next)))
+  check-expr-check-expr-requires-3 c κs = let p = c .before .before .before .before .before .before .before .before .before .before .before .pre .1 in let o = operation _ _ _ _ (p .2) (unlike 8 _ (c .before .before .before .before .before .before .match .rest)) in let e = c .before .before .before .before .check-expr2 .ensures in (omega (arith, expr-in _ _ _ _ (p .2), e .next, expr-forward _ _ _ _ (pair-lhs _ _ _ _ (p .2) o)), (p .0, e .emitted .fits, pair-rhs _ _ _ _ (p .2) o _ (e .next)))
 
   check-expr-operation-requires : check-expr-asks check-expr-lts.Need-operation-requires
   check-expr-operation-requires c κs = let p = c .before .before .before .before .before .before .before .before .before .before .before .before .before .before .before .before .pre .1 in (p .0 .texts, c .before .before .before .before .check-expr3 .ensures .emitted .fits, pair-inside _ _ _ _ (p .2) (operation _ _ _ _ (p .2) (unlike 8 _ (c .before .before .before .before .before .before .before .before .before .before .before .match .rest))) _ (c .before .before .before .before .before .before .before .before .before .check-expr2 .ensures .next) _ (c .before .before .before .before .check-expr3 .ensures .next))
