@@ -17,7 +17,7 @@ use Rattle.accepted.specs.Parts.{valueOr, Goes, start, field, known, end
 use Rattle.accepted.specs.Fields.{number-in, number-is, option-in, option-none, option-held, option-some, repeat-first, repeat-rest, repeat-is}
 use Rattle.accepted.specs.Remains.{Remains}
 use Rattle.accepted.specs.Ends.{Moves, seq-moves, last-moves, number-moves, span-moves, one-moves, text-moves, option-moves, repeat-moves, counted-moves, none-left, and, each-moves, refuse-moves}
-use Rattle.accepted.specs.Levels.{level-in, level-below, level-left, level-goes, level-moves, level-end}
+use Rattle.accepted.specs.Levels.{level-in, level-below, level-left, level-goes, level-moves, level-forward, level-end}
 use Rattle.accepted.specs.Operands.{qualifier-moves, operand-moves, held-moves, modifier-moves, forRange-moves, param-moves}
 
 -- a body: its two-byte count, and so many statements
@@ -109,11 +109,21 @@ cases-move t inner m place c =
 pub stmt-moves : (t : List Text) (left : ℕ) → Moves (stmt t left)
 stmt-moves t = level-moves (stmt-levels t) (cases-move t)
 
+pub stmt-forward : (t : List Text) (left : ℕ) (s : List ℕ) (at : ℕ) → IsOk (stmt t left s at) → at ≤ nextOf (stmt t left s at)
+stmt-forward t = level-forward (stmt-levels t) (cases-move t)
+
 pub stmt-end : (t : List Text) (left : ℕ) (s : List ℕ) (at : ℕ) → IsOk (stmt t left s at) → nextOf (stmt t left s at) ≤ length s
 stmt-end t = level-end (stmt-levels t) (cases-move t)
 
-pub body-end : (t : List Text) (left : ℕ) (s : List ℕ) (at : ℕ) → IsOk (body (stmt t left) s at) → nextOf (body (stmt t left) s at) ≤ length s
-body-end t left s at h = let i = body-in (stmt t left) s at h in let l : at ≤ length s = omega arith in body-moves (stmt-moves t left) .moves s at l h .1
+module _ (t : List Text) (left : ℕ) (s : List ℕ) (at : ℕ) (h : IsOk (body (stmt t left) s at)) where
+  body-within : at ≤ length s
+  body-within = let i = body-in (stmt t left) s at h in omega arith
+
+  pub body-forward : at ≤ nextOf (body (stmt t left) s at)
+  body-forward = body-moves (stmt-moves t left) .moves s at body-within h .0
+
+  pub body-end : nextOf (body (stmt t left) s at) ≤ length s
+  body-end = body-moves (stmt-moves t left) .moves s at body-within h .1
 
 -- the statements of a body: one more
 module _ (t : List Text) (left : ℕ) (s : List ℕ) (n k : ℕ) (h : IsOk (repeat noStmt moreStmt (stmt t left) n s k)) (l : 0 < n) where

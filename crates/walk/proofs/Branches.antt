@@ -20,7 +20,7 @@ use Rattle.context.specs.declared.State.{State}
 use Rattle.context.specs.View.{spanAt, keysIn, scopesOf, functionsOf, contextOf}
 use Rattle.accepted.specs.Cases.{blank}
 use Rattle.accepted.specs.Parts.{valueOr, value-is, given-ok}
-use Rattle.accepted.specs.Bodies.{stmt-left}
+use Rattle.accepted.specs.Bodies.{stmt-left, body-forward}
 use Rattle.accepted.specs.Stmts.{branch-condition, branch-body, branch-else, branch-is, branch-inside}
 use Rattle.promises.specs.Emitted.{emitted-then, emitted-as}
 use Rattle.promises.specs.Walks.{Ready, StmtKeyed, Walked, StmtWalked, BodyWalked}
@@ -29,6 +29,7 @@ use Rattle.bodies.specs.Opened.{ConditionOpened}
 use Rattle.walk.specs.Bodies.{ElseKeyed, walkElse}
 use Rattle.walk.proofs.Enclosed.{opened-context, opened-below, ended-context, body-walked, else-same}
 use Rattle.walk.proofs.Held.{Holds}
+use Rattle.walk.proofs.Further.{if-further}
 
 module _ (tree index : List ℕ) (keys left : ℕ) (st : State) (h : IsOk (stmt (textsOf tree) left tree (st .at))) (l : left ≤ 8) (b : getD tree (st .at) 0 ≡ 12) where
   abbrev t : List Text
@@ -66,8 +67,8 @@ module _ (tree index : List ℕ) (keys left : ℕ) (st : State) (h : IsOk (stmt 
   if-else : IsOk (elseBody (stmt t (left - 1)) tree elseAt)
   if-else = branch-else t left tree (st .at) h b _ refl _ refl
 
-  pub then-holds : Holds tree left SetsStmt (stmt t left tree (st .at)) empty thenAt
-  then-holds = record { some = left-some; held = if-body; keyed = λ ks ss k j g. k .each _ _ if-is j (inl g) }
+  pub then-holds : Holds tree left (st .at) SetsStmt (stmt t left tree (st .at)) empty thenAt
+  then-holds = record { some = left-some; further = if-further tree left (st .at) h b; held = if-body; keyed = λ ks ss k j g. k .each _ _ if-is j (inl g) }
 
   module _ (s o : List ℕ) (i : State) (s′ o′ : List ℕ) (p : ConditionOpened Messages.ifCondition tree left st s o i s′ o′) where
     module _ (w : State) (s″ o″ : List ℕ) (v : BodyWalked tree index keys (left - 1) i s′ o′ w s″ o″) where
@@ -84,6 +85,9 @@ module _ (tree index : List ℕ) (keys left : ℕ) (st : State) (h : IsOk (stmt 
 
         pub else-held : IsOk (elseBody (stmt t (left - 1)) tree (e .at))
         else-held = rw else-at if-else
+
+        pub else-further : st .at < e .at
+        else-further = omega (arith, else-at, if-further tree left (st .at) h b, body-forward _ _ _ _ if-body)
 
         pub else-ready : Ready tree s st → Ready tree s″ e
         else-ready r = record { room = omega (arith, v .same-length, p .becomes .same-length, r .room); few = v .few; placed = rw z (r .placed); fits = rw y (v .emitted .fits) }

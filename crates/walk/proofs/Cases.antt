@@ -2,6 +2,7 @@
 use Prim.Native.Nat.{ℕ, suc, _+_, _-_, _≤_, _<_}
 use mathlib.Core.Path.{_≡_, refl, sym, ap, _∙_}
 use mathlib.Core.List.{List, []}
+use native.Mathlib.Omega.{arith}
 use lib.ListN.{getD}
 use Rattle.span.specs.declared.Span.{Span}
 use mathlib.Core.Option.{Option, none, some}
@@ -30,6 +31,7 @@ use Rattle.bodies.specs.Opened.{gateBody, gateSpan, gateParams, gateQparams, fo
 use Rattle.walk.specs.Bodies.{LoopWalked, walkElse, ElseOpened}
 use Rattle.walk.proofs.Enclosed.{enclosed, ended-marks, body-walked}
 use Rattle.walk.proofs.Held.{Holds, loop-walked}
+use Rattle.walk.proofs.Further.{gate-further, for-further, while-further}
 
 -- the range of a `for` is checked by the symbols and the functions alone
 step-same : (c : SemaContext) (e : Option Expr) → stepSays (plainContext (c .symbols) (c .functions)) e ≡ stepSays c e
@@ -51,24 +53,24 @@ module _ (tree : List ℕ) (left at : ℕ) (h : IsOk (stmt (textsOf tree) left t
         ≡ ok (Stmt.GateDef at (numberAt 2 tree (at + 1)) (gateParams tree left at) (gateQparams tree left at) (restAt (gateBody tree left at)) (gateSpan tree left at)) (nextOf (body (stmt (textsOf tree) (left - 1)) tree (gateBody tree left at)) + 8)
     gate-is = gateDef-is (textsOf tree) left tree at h b _ refl _ refl _ refl
 
-    pub gate-holds : Holds tree left SetsStmt (stmt (textsOf tree) left tree at) (gateScope (gateParams tree left at) (gateQparams tree left at) (gateSpan tree left at)) (gateBody tree left at)
-    gate-holds = record { some = stmt-left (textsOf tree) left tree at h; held = gateDef-body (textsOf tree) left tree at h b _ refl _ refl; keyed = λ ks ss k. k .each _ _ gate-is }
+    pub gate-holds : Holds tree left at SetsStmt (stmt (textsOf tree) left tree at) (gateScope (gateParams tree left at) (gateQparams tree left at) (gateSpan tree left at)) (gateBody tree left at)
+    gate-holds = record { some = stmt-left (textsOf tree) left tree at h; further = gate-further tree left at h b; held = gateDef-body (textsOf tree) left tree at h b _ refl _ refl; keyed = λ ks ss k. k .each _ _ gate-is }
 
   module _ (b : getD tree at 0 ≡ 13) where
     pub for-is : stmt (textsOf tree) left tree at
         ≡ ok (Stmt.For at (numberAt 2 tree (at + 1)) (typeOf (getD tree (at + 3) 0)) (valueOr blankRange (forRange (textsOf tree) tree (at + 4))) (restAt (forBody tree left at)) (forSpan tree left at)) (nextOf (body (stmt (textsOf tree) (left - 1)) tree (forBody tree left at)) + 8)
     for-is = forLoop-is (textsOf tree) left tree at h b _ refl _ refl
 
-    pub for-holds : Holds tree left SetsStmt (stmt (textsOf tree) left tree at) (loopScope (numberAt 2 tree (at + 1)) (typeOf (getD tree (at + 3) 0)) (forSpan tree left at)) (forBody tree left at)
-    for-holds = record { some = stmt-left (textsOf tree) left tree at h; held = forLoop-body (textsOf tree) left tree at h b _ refl; keyed = λ ks ss k. k .each _ _ for-is }
+    pub for-holds : Holds tree left at SetsStmt (stmt (textsOf tree) left tree at) (loopScope (numberAt 2 tree (at + 1)) (typeOf (getD tree (at + 3) 0)) (forSpan tree left at)) (forBody tree left at)
+    for-holds = record { some = stmt-left (textsOf tree) left tree at h; further = for-further tree left at h b; held = forLoop-body (textsOf tree) left tree at h b _ refl; keyed = λ ks ss k. k .each _ _ for-is }
 
   module _ (b : getD tree at 0 ≡ 14) where
     pub while-is : stmt (textsOf tree) left tree at
         ≡ ok (Stmt.While at (valueOr blank (held (textsOf tree) tree (at + 1))) (restAt (nextOf (held (textsOf tree) tree (at + 1)))) (spanAt tree (nextOf (body (stmt (textsOf tree) (left - 1)) tree (nextOf (held (textsOf tree) tree (at + 1))))))) (nextOf (body (stmt (textsOf tree) (left - 1)) tree (nextOf (held (textsOf tree) tree (at + 1)))) + 8)
     while-is = whileLoop-is (textsOf tree) left tree at h b _ refl _ refl
 
-    pub while-holds : Holds tree left SetsStmt (stmt (textsOf tree) left tree at) empty (nextOf (held (textsOf tree) tree (at + 1)))
-    while-holds = record { some = stmt-left (textsOf tree) left tree at h; held = whileLoop-body (textsOf tree) left tree at h b _ refl; keyed = λ ks ss k. k .each _ _ while-is }
+    pub while-holds : Holds tree left at SetsStmt (stmt (textsOf tree) left tree at) empty (nextOf (held (textsOf tree) tree (at + 1)))
+    while-holds = record { some = stmt-left (textsOf tree) left tree at h; further = while-further tree left at h b; held = whileLoop-body (textsOf tree) left tree at h b _ refl; keyed = λ ks ss k. k .each _ _ while-is }
 
 module _ (tree index : List ℕ) (keys left : ℕ) (st : State) (h : IsOk (stmt (textsOf tree) left tree (st .at))) (l : left ≤ 8) {s o : List ℕ} {i : State} {s′ o′ : List ℕ} where
   pub gate-walked : getD tree (st .at) 0 ≡ 6 → GateOpened tree left st s o i s′ o′ → {w : State} {s″ o″ : List ℕ} → BodyWalked tree index keys (left - 1) i s′ o′ w s″ o″
@@ -98,8 +100,8 @@ module _ (tree : List ℕ) (left at : ℕ) (a : 0 < left) (h : IsOk (elseBody (s
   some-is : elseBody (stmt (textsOf tree) (left - 1)) tree at ≡ ok (someElse (valueOr noStmt (body (stmt (textsOf tree) (left - 1)) tree (at + 1)))) (nextOf (body (stmt (textsOf tree) (left - 1)) tree (at + 1)))
   some-is = else-some (stmt (textsOf tree) (left - 1)) tree at h b _ refl
 
-  pub else-holds : Holds tree left SetsElse (elseBody (stmt (textsOf tree) (left - 1)) tree at) empty (at + 1)
-  else-holds = record { some = a; held = else-body (stmt (textsOf tree) (left - 1)) tree at h b; keyed = λ ks ss k. k .each _ _ some-is }
+  pub else-holds : Holds tree left at SetsElse (elseBody (stmt (textsOf tree) (left - 1)) tree at) empty (at + 1)
+  else-holds = record { some = a; further = omega arith; held = else-body (stmt (textsOf tree) (left - 1)) tree at h b; keyed = λ ks ss k. k .each _ _ some-is }
 
 -- An `else`, after a `then` body that ended in the marks `thens`.
 module _ (tree index : List ℕ) (keys left : ℕ) (thens : List ℕ) (st : State) (s o : List ℕ) (a : 0 < left) (l : left ≤ 8) (h : IsOk (elseBody (stmt (textsOf tree) (left - 1)) tree (st .at))) where

@@ -25,14 +25,15 @@ use Rattle.bodies.specs.Opened.{Opened}
 use Rattle.walk.specs.Bodies.{looped, LoopWalked}
 use Rattle.walk.proofs.Enclosed.{level, inner, opened-ready, enclosed, ended-marks, body-walked}
 
--- what was read holds a body at a place, which begins with this scope
-pub record Holds (tree : List ℕ) (left : ℕ) {A : Type 0} (sets : A → Symbols → Key → Type 0) (x : Ans A) (scope : Scope) (place : ℕ) : Type 0 where
+-- what was read holds a body at a place further on, which begins with this scope
+pub record Holds (tree : List ℕ) (left at : ℕ) {A : Type 0} (sets : A → Symbols → Key → Type 0) (x : Ans A) (scope : Scope) (place : ℕ) : Type 0 where
   pub some : 0 < left
+  pub further : at < place
   pub held : IsOk (body (stmt (textsOf tree) (left - 1)) tree place)
   pub keyed : (ks : List Key) (ss : Symbols) → Keyed sets ks ss x → (k : Key) → Sets (valueOr noStmt (body (stmt (textsOf tree) (left - 1)) tree place)) (scope ∷ ss) k → hasKey ks k ≡ true
 
 -- the body opened: what the walk over it asks
-module _ (tree index : List ℕ) (keys left : ℕ) (l : left ≤ 8) {A : Type 0} {sets : A → Symbols → Key → Type 0} {x : Ans A} {scope : Scope} {place : ℕ} (H : Holds tree left sets x scope place)
+module _ (tree index : List ℕ) (keys left : ℕ) (l : left ≤ 8) {A : Type 0} {sets : A → Symbols → Key → Type 0} {x : Ans A} {scope : Scope} {at place : ℕ} (H : Holds tree left at sets x scope place)
     {gates : Table GateSig} {ds : List Diagnostic} {st : State} {s o : List ℕ} {i : State} {s′ o′ : List ℕ} (p : Opened (textsOf tree) (9 - left) scope gates ds place st s o i s′ o′) where
   pub body-keyed : Keyed sets (keysIn index keys) (scopesOf s (9 - left)) x → BodyKeyed (keysIn index keys) (scopesOf s′ (9 - (left - 1))) (body (stmt (textsOf tree) (left - 1)) tree (i .at))
   body-keyed h =
@@ -44,7 +45,7 @@ module _ (tree index : List ℕ) (keys left : ℕ) (l : left ≤ 8) {A : Type 0}
   body-asked w r k = ((w, opened-ready p r, rw (p .at) (H .held), omega arith), body-keyed k)
 
 -- a statement that ends in a body and a span
-module _ (tree index : List ℕ) (keys left : ℕ) (l : left ≤ 8) (st : State) {S : Stmt} {scope : Scope} {place : ℕ} (is : stmt (textsOf tree) left tree (st .at) ≡ ok S (nextOf (body (stmt (textsOf tree) (left - 1)) tree place) + 8)) (H : Holds tree left SetsStmt (stmt (textsOf tree) left tree (st .at)) scope place)
+module _ (tree index : List ℕ) (keys left : ℕ) (l : left ≤ 8) (st : State) {S : Stmt} {scope : Scope} {place : ℕ} (is : stmt (textsOf tree) left tree (st .at) ≡ ok S (nextOf (body (stmt (textsOf tree) (left - 1)) tree place) + 8)) (H : Holds tree left (st .at) SetsStmt (stmt (textsOf tree) left tree (st .at)) scope place)
     {gates : Table GateSig} {ds : List Diagnostic} {s o : List ℕ} {i : State} {s′ o′ : List ℕ} (p : Opened (textsOf tree) (9 - left) scope gates ds place st s o i s′ o′) where
   abbrev ks : List Key
   ks = keysIn index keys

@@ -2,6 +2,7 @@ pub mod Plain
 pub mod Keyed
 pub mod Loop
 pub mod Enclosed
+pub mod Further
 pub mod Held
 pub mod Cases
 pub mod Branches

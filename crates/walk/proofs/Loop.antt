@@ -19,13 +19,14 @@ use Rattle.lines.specs.EmitLaws.{emit-append, emit-none}
 use Rattle.accepted.specs.Cases.{blankStmt}
 use Rattle.accepted.specs.Parts.{valueOr, given-is, given-ok, next-is}
 use Rattle.accepted.specs.Fields.{repeat-none}
-use Rattle.accepted.specs.Bodies.{body-is, body-held, stmts-first, stmts-rest, stmts-is}
+use Rattle.accepted.specs.Bodies.{stmt-forward, body-is, body-held, stmts-first, stmts-rest, stmts-is}
 use Rattle.promises.specs.Walks.{Ready, StmtKeyed, BodyKeyed, walkStmt, walkBody, StmtWalked, BodyWalked}
 use Rattle.sema.specs.LawsOnly.{symbols-after}
 use Rattle.walk.proofs.Keyed.{first-keyed, rest-keyed}
 
 -- n statements remain from r on; what the walk makes of them is what it makes of the whole from st on
 pub record Going (tree : List ℕ) (ks : List Key) (depth left : ℕ) (whole : Ans Stmts) (st : State) (s o : List ℕ) (n : ℕ) (r : State) (s′ o′ : List ℕ) : Type 0 where
+  pub past : st .at ≤ r .at
   pub rest : IsOk (repeat noStmt moreStmt (stmt (textsOf tree) left) n tree (r .at))
   pub ends : nextOf whole ≡ nextOf (repeat noStmt moreStmt (stmt (textsOf tree) left) n tree (r .at))
   pub walks : walkBody (textsOf tree) (repeat noStmt moreStmt (stmt (textsOf tree) left) n tree (r .at)) (contextOf tree ks s′ depth (r .marks)) .0 ≡ walkBody (textsOf tree) whole (contextOf tree ks s depth (st .marks)) .0
@@ -76,6 +77,7 @@ module _ (tree index : List ℕ) (keys left at : ℕ) (r₀ : State) (s o : List
   going-start n h e a d k =
       let g = body-is (stmt (textsOf tree) left) tree at h in
       record {
+        past = omega arith;
         rest = rw (e, a) (body-held (stmt (textsOf tree) left) tree at h);
         ends = rw (e, a) (ap nextOf g);
         walks = rw (e, a, g);
@@ -110,6 +112,7 @@ module _ (tree index : List ℕ) (keys left at : ℕ) (r₀ : State) (s o : List
           let c″ : contextOf tree (keysIn index keys) s″ (9 - left) (r″ .marks) ≡ analyzeStmt t S″ c .0 = w .goes ∙ ap (λ p. p .0) f in
           let d : walkBody t (repeat noStmt moreStmt (stmt t left) (n - 1) tree (r″ .at)) (contextOf tree (keysIn index keys) s″ (9 - left) (r″ .marks)) .1 ≡ analyzeStmts t R″ (analyzeStmt t S″ c .0) .1 = ap (λ p. p .1) (q _) ∙ ap (λ (x : SemaContext). analyzeStmts t R″ x .1) c″ in
           record {
+            past = omega (arith, g .past, w .at, stmt-forward t left tree (r .at) going-stmt);
             rest = stmts-rest t left tree n (r .at) (g .rest) l (r″ .at) (w .at);
             ends = g .ends ∙ next-is i;
             walks = ap (λ p. p .0) (q _) ∙ ap (λ (x : SemaContext). analyzeStmts t R″ x .0) c″ ∙ sym (ap (λ p. p .0) v) ∙ g .walks;

@@ -5,6 +5,7 @@ use mathlib.Core.Path.{_≡_, refl, sym, _∙_}
 use mathlib.Core.List.{List, []}
 use mathlib.Core.Logic.{⊎-elim}
 use native.Mathlib.Omega.{arith}
+use lib.ListN.{length}
 use Rattle.ast.specs.Tree.{Text}
 use Rattle.tree.specs.Stmts.{body, stmt}
 use Rattle.tree.specs.Decode.{textsOf}
@@ -18,7 +19,7 @@ use Rattle.walk.proofs.Loop.{Going, ready-as, going-as, going-start, go
 use Rattle.walk.proofs.Enclosed.{opened-as}
 use Rattle.walk.proofs.Held.{body-asked, body-room, loop-united}
 use Rattle.walk.proofs.Cases.{gate-is, gate-holds, gate-walked, for-is, for-holds, for-walked, while-is, while-holds, while-walked, else-holds, none-walked, some-walked}
-use Rattle.walk.proofs.Branches.{then-holds, else-held, else-ready, else-keyed, if-room, if-walked}
+use Rattle.walk.proofs.Branches.{then-holds, else-held, else-further, else-ready, else-keyed, if-room, if-walked}
 use borrow.Author.Needs.{needs}
 use borrow.Fn.Kinds.{In}
 use borrow.Fn.PlainCycle.{Measures}
@@ -49,28 +50,28 @@ use Rattle.walk.proofs.+analyze_stmts+body_stmt+branch+branch_else+for_
 use Rattle.walk.proofs.+analyze_stmts+body_stmt+branch+branch_else+for_loop+gate_def+loop_body+while_loop.Tie.{close}
 
 abbrev μ-analyze-stmts : Measures 4 analyze-stmts-lts.ps ℕ
-μ-analyze-stmts κs a = 5 * a .1 .1 .1 .1 .1 .0 + 3
+μ-analyze-stmts κs a = 2 * (length (a .0 .now) - a .1 .1 .1 .1 .1 .1 .0 .at)
 
 abbrev μ-body-stmt : Measures 4 body-stmt-lts.ps ℕ
-μ-body-stmt κs a = 5 * a .1 .1 .1 .1 .1 .0 + 2
+μ-body-stmt κs a = 2 * (length (a .0 .now) - a .1 .1 .1 .1 .1 .1 .0 .at) + 1
 
 abbrev μ-branch : Measures 4 branch-lts.ps ℕ
-μ-branch κs a = 5 * a .1 .1 .1 .1 .1 .0 + 1
+μ-branch κs a = 2 * (length (a .0 .now) - a .1 .1 .1 .1 .1 .1 .0 .at)
 
 abbrev μ-branch-else : Measures 5 branch-else-lts.ps ℕ
-μ-branch-else κs a = 5 * a .1 .1 .1 .1 .1 .0 + 0
+μ-branch-else κs a = 2 * (length (a .0 .now) - a .1 .1 .1 .1 .1 .1 .1 .0 .at)
 
 abbrev μ-for-loop : Measures 4 for-loop-lts.ps ℕ
-μ-for-loop κs a = 5 * a .1 .1 .1 .1 .1 .0 + 1
+μ-for-loop κs a = 2 * (length (a .0 .now) - a .1 .1 .1 .1 .1 .1 .0 .at)
 
 abbrev μ-gate-def : Measures 4 gate-def-lts.ps ℕ
-μ-gate-def κs a = 5 * a .1 .1 .1 .1 .1 .0 + 1
+μ-gate-def κs a = 2 * (length (a .0 .now) - a .1 .1 .1 .1 .1 .1 .0 .at)
 
 abbrev μ-loop-body : Measures 4 loop-body-lts.ps ℕ
-μ-loop-body κs a = 5 * a .1 .1 .1 .1 .1 .0 + 4
+μ-loop-body κs a = 2 * (length (a .0 .now) - a .1 .1 .1 .1 .1 .1 .0 .at) + 1
 
 abbrev μ-while-loop : Measures 4 while-loop-lts.ps ℕ
-μ-while-loop κs a = 5 * a .1 .1 .1 .1 .1 .0 + 1
+μ-while-loop κs a = 2 * (length (a .0 .now) - a .1 .1 .1 .1 .1 .1 .0 .at)
 
 abbrev analyze-stmts-Inv-loop : analyze-stmts-lts.InvT-loop
 analyze-stmts-Inv-loop tree index scratch₀ out₀ keys left at n₀ s₀ scratch out n s = Going tree (keysIn index keys) (9 - left) left (body (stmt (textsOf tree) left) tree at) s₀ scratch₀ out₀ n s scratch out
@@ -164,7 +165,8 @@ module _ (t : ℕ) where
       let p = c .before .before .before .before .before .before .before .before .before .before .before .pre .1 .0 in
       let i = c .before .before .before .before .before .before .loop .inv in
       let l = c .before .before .before .before .before .loop-test .taken in
-      (omega arith, ((p .0, i .ready, going-stmt _ _ _ _ _ _ _ _ _ _ _ _ i l, p .3, sym (c .before .before .before .is-plain .ensures) ∙ c .before .before .if1 .left), going-keyed _ _ _ _ _ _ _ _ _ _ _ _ i l))
+      let h = going-stmt _ _ _ _ _ _ _ _ _ _ _ _ i l in
+      (omega (arith, i .past, stmt-in _ _ _ _ h), ((p .0, i .ready, h, p .3, sym (c .before .before .before .is-plain .ensures) ∙ c .before .before .if1 .left), going-keyed _ _ _ _ _ _ _ _ _ _ _ _ i l))
 
   analyze-stmts-loop-again : analyze-stmts-lts.Need-loop-again analyze-stmts-calls analyze-stmts-at analyze-stmts.Post analyze-stmts-Inv-loop analyze-stmts-μ-loop
   analyze-stmts-loop-again c =
@@ -187,8 +189,7 @@ module _ (t : ℕ) where
       (λ c κs. search needs)  -- is-plain-requires
       analyze-stmts-plain-stmt-requires
       analyze-stmts-body-stmt-requires
-      (λ c. search needs)  -- sub-n
-      (λ c. search needs)  -- loop-less
+      (λ c. search needs) (λ c. search needs)  -- sub-n, loop-less
       analyze-stmts-loop-again
       (λ c. search needs)  -- same-length
       (λ c. c .before .loop .inv .same-out)  -- same-length-2
@@ -206,7 +207,7 @@ module _ (t : ℕ) where
       let p = s .pre .1 in
       let g = opened-as (c .before .before .before .before .before .before .before .open-gate .ensures (s .args .st .marks)) _ (c .before .before .moved .ensures) in
       let h = gate-holds _ _ _ (p .0 .2) (p .0 .4) in
-      (omega (arith, h .some), body-asked _ _ _ _ (p .0 .3) h g (p .0 .0) (p .0 .1) (p .1))
+      (omega (arith, g .at, h .further, body-in _ _ _ (h .held)), body-asked _ _ _ _ (p .0 .3) h g (p .0 .0) (p .0 .1) (p .1))
 
   gate-def-add-r : gate-def-lts.Need-add-r gate-def-calls gate-def-at gate-def.Post
   gate-def-add-r c =
@@ -263,7 +264,7 @@ module _ (t : ℕ) where
       let g = opened-as (c .before .before .before .before .before .before .before .open-for .ensures (s .args .st .marks)) _ (c .before .before .moved .ensures) in
       let h = for-holds _ _ _ (p .0 .2) (p .0 .4) in
       let a = body-asked _ _ _ _ (p .0 .3) h g (p .0 .0) (p .0 .1) (p .1) in
-      (omega (arith, h .some), (a .0, (a .1, body-room _ _ _ (for-is _ _ _ (p .0 .2) (p .0 .4)) (p .0 .2) _ (g .at))))
+      (omega (arith, g .at, h .further, body-in _ _ _ (h .held)), (a .0, (a .1, body-room _ _ _ (for-is _ _ _ (p .0 .2) (p .0 .4)) (p .0 .2) _ (g .at))))
 
   for-loop-closed : {M : Type 1} → for-loop-lts.Closed for-loop-calls for-loop-at for-loop.Post M
   for-loop-closed =
@@ -288,7 +289,7 @@ module _ (t : ℕ) where
       let g = opened-as (c .before .before .before .before .before .before .before .open-while .ensures (s .args .st .marks)) _ (c .before .before .moved .ensures) in
       let h = while-holds _ _ _ (p .0 .2) (p .0 .4) in
       let a = body-asked _ _ _ _ (p .0 .3) h g (p .0 .0) (p .0 .1) (p .1) in
-      (omega (arith, h .some), (a .0, (a .1, body-room _ _ _ (while-is _ _ _ (p .0 .2) (p .0 .4)) (p .0 .2) _ (g .at))))
+      (omega (arith, g .at, h .further, body-in _ _ _ (h .held)), (a .0, (a .1, body-room _ _ _ (while-is _ _ _ (p .0 .2) (p .0 .4)) (p .0 .2) _ (g .at))))
 
   while-loop-closed : {M : Type 1} → while-loop-lts.Closed while-loop-calls while-loop-at while-loop.Post M
   while-loop-closed =
@@ -312,7 +313,7 @@ module _ (t : ℕ) where
       let p = s .pre .1 in
       let g = opened-as (c .before .before .before .before .before .before .before .open-if .ensures (s .args .t7 .marks)) _ (c .before .before .moved .ensures) in
       let h = then-holds _ [] 0 _ (s .args .t7) (p .0 .2) (p .0 .3) (p .0 .4) in
-      (omega (arith, h .some), body-asked _ _ _ _ (p .0 .3) h g (p .0 .0) (p .0 .1) (p .1))
+      (omega (arith, g .at, h .further, body-in _ _ _ (h .held)), body-asked _ _ _ _ (p .0 .3) h g (p .0 .0) (p .0 .1) (p .1))
 
   branch-branch-else-requires : branch-lts.Need-branch-else-requires branch-calls branch-at branch.Post
   branch-branch-else-requires c κs =
@@ -320,7 +321,8 @@ module _ (t : ℕ) where
       let p = s .pre .1 in
       let g = opened-as (c .before .before .before .before .before .before .before .before .before .before .before .before .before .before .before .before .open-if .ensures (s .args .t7 .marks)) _ (c .before .before .before .before .before .before .before .before .before .before .before .moved .ensures) in
       let v = c .before .before .before .before .before .before .before .before .analyze-stmts .ensures in
-      (omega (arith, s .pre .0), ((p .0 .0, else-ready _ _ _ _ _ (p .0 .2) (p .0 .3) (p .0 .4) _ _ _ _ _ g _ _ _ v _ refl refl refl (p .0 .1), v .placed, else-held _ _ _ _ _ (p .0 .2) (p .0 .3) (p .0 .4) _ _ _ _ _ g _ _ _ v _ refl refl refl, stmt-left _ _ _ _ (p .0 .2), p .0 .3), else-keyed _ _ _ _ _ (p .0 .2) (p .0 .3) (p .0 .4) _ _ _ _ _ g _ _ _ v _ refl refl refl (p .1)))
+      let h = else-held _ _ _ _ _ (p .0 .2) (p .0 .3) (p .0 .4) _ _ _ _ _ g _ _ _ v _ refl refl refl in
+      (omega (arith, s .pre .0, else-further _ _ _ _ _ (p .0 .2) (p .0 .3) (p .0 .4) _ _ _ _ _ g _ _ _ v _ refl refl refl, else-in _ _ _ h), ((p .0 .0, else-ready _ _ _ _ _ (p .0 .2) (p .0 .3) (p .0 .4) _ _ _ _ _ g _ _ _ v _ refl refl refl (p .0 .1), v .placed, h, stmt-left _ _ _ _ (p .0 .2), p .0 .3), else-keyed _ _ _ _ _ (p .0 .2) (p .0 .3) (p .0 .4) _ _ _ _ _ g _ _ _ v _ refl refl refl (p .1)))
 
   branch-add-e : branch-lts.Need-add-e branch-calls branch-at branch.Post
   branch-add-e c =
@@ -365,7 +367,7 @@ module _ (t : ℕ) where
       let b = c .before .before .before .before .before .before .before .before .if1 .left in
       let st = stateOf (s .args .t .at) (s .args .t .sink) _ in
       let o : (t : List Text) → ElseOpened t (s .args .left) st _ [] (stateOf (s .args .t .at + 1) (s .args .t .sink) _) _ [] = λ t. (record { at = refl; marks = refl; emitted = emitted-none (p .1 .fits); becomes = c .before .before .before .before .before .before .enter .ensures }) in
-      (omega (arith, p .4), body-asked _ _ _ _ (p .5) (else-holds _ _ _ (p .4) (p .3) b) (o _) (p .0) (p .1) (s .pre .1 .1))
+      (omega (arith, else-in _ _ _ (p .3)), body-asked _ _ _ _ (p .5) (else-holds _ _ _ (p .4) (p .3) b) (o _) (p .0) (p .1) (s .pre .1 .1))
 
   branch-else-returns-2 : branch-else-lts.Need-returns-2 branch-else-calls branch-else-at branch-else.Post
   branch-else-returns-2 c =
@@ -387,8 +389,7 @@ module _ (t : ℕ) where
       (λ c. omega (arith, c .before .before .before .before .before .before .before .before .before .before .before .before .before .pre .1 .0 .4))  -- sub-analyze-stmts
       branch-else-analyze-stmts-requires
       (λ c κs. (c .before .before .before .before .before .before .before .before .before .before .before .before .before .before .before .before .before .before .before .before .before .pre .1 .0 .2 .whole, c .before .before .before .before .before .before .before .analyze-stmts .ensures .placed .whole))  -- unite-requires-2
-      (λ c. search needs)  -- same-length
-      (λ c. search needs)  -- same-length-2
+      (λ c. search needs) (λ c. search needs)  -- same-length, same-length-2
       branch-else-returns-2
 
 pub +analyze-stmts+body-stmt+branch+branch-else+for-loop+gate-def+loop-body+while-loop-spec : {M : Type 1} → statement M
