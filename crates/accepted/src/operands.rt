@@ -73,6 +73,7 @@ pub fn operand_at(s: &[u8], at: usize) -> ReadOperand
     requires { ⌜ IsOk (operand (textsOf (now s)) (now s) at) ⌝ }
     ensures { λ r. ⌜ operand (textsOf (now (s .entry))) (now (s .entry)) at ≡ ok (operandOf (r .operand)) (r .next) ⌝ }
 {
+    let s = &s[..]; // pointer and length are loaded one by one, and not waited for as a pair
     let name = u16_at(s, at);
     let i = number_at(s, at + 2);
     let index = i.number;

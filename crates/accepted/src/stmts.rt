@@ -19,7 +19,7 @@ use crate::parts::skip_qualifier;
 use crate::parts::skip_range;
 
 // The place past a statement with so many levels left.
-pub fn skip_stmt(s: &[u8], at: usize, left: usize) -> usize
+fn skip_stmt(s: &[u8], at: usize, left: usize) -> usize
     requires { ⌜ IsOk (stmt (textsOf (now s)) left (now s) at) ⌝ }
     ensures { λ r. ⌜ r ≡ nextOf (stmt (textsOf (now (s .entry))) left (now (s .entry)) at) ⌝ }
 {

@@ -12,6 +12,7 @@ use borrow.Author.Tests.{lt-ltb, le-ltb}
 use Rattle.ast.specs.Tree.{Text, Program, noStmt}
 use Rattle.tree.specs.Ans.{Ans, ok, refused, given, IsOk}
 use Rattle.tree.specs.Decode.{decode}
+use Rattle.sema.specs.Limits.{keyLimit}
 use Rattle.sema.specs.Keys.{keys}
 use Rattle.sema.specs.Stmts.{analyze}
 use Rattle.listing.specs.Listing.{ended, firstLine, listingOf}
@@ -20,25 +21,25 @@ use Rattle.reader.specs.Answers.{validated}
 use Rattle.reader.specs.declared.Validated.{Validated}
 use Rattle.context.specs.declared.Sink.{Sink}
 use Rattle.lines.specs.EmitLaws.{listing-stored}
-use Rattle.sheet.specs.Sheet.{KeysAdded}
 use Rattle.tables.specs.Tables.{cleared}
 use Rattle.claims.specs.Claim.{programOf, Claim}
 use Rattle.claims.proofs.Demand3.{demand-3}
 use Rattle.verdict.specs.declared.Answer.{Answer as AnswerValue}
 use Rattle.verdict.specs.Verdict.{answerOf, isAccepted, headOf, Learnt, Listable}
 use Rattle.verdict.proofs.Judging.{few-of, judged-fine, listed-fine}
-use Rattle.checker.specs.Check.{SameRest, listingFor, Judged, JudgedFile, Ran, Staged}
+use Rattle.checker.specs.declared.Outcome.{Outcome}
+use Rattle.checker.specs.Check.{SameRest, listingFor, Judged, JudgedFile, Ran, Staged, Told}
 use Rattle.checker.proofs.Runs.{written}
 
 -- what the second walk leaves
-pub listing-written : (p : Program) (sink : Sink) → Learnt p sink → sink .errors + sink .warnings ≤ 256 → (t : List Text) → p .texts ≡ t → (l : List ℕ) → {s : List ℕ} {n : ℕ} {o : List ℕ} {r : Sink} {s′ o′ : List ℕ}
+pub listing-written : (p : Program) → length (keys p) ≤ keyLimit → (sink : Sink) → Learnt p sink → sink .errors + sink .warnings ≤ 256 → (t : List Text) → p .texts ≡ t → (l : List ℕ) → {s : List ℕ} {n : ℕ} {o : List ℕ} {r : Outcome} {s′ o′ : List ℕ}
     → o ≡ sets l 0 (headOf (sink .errors) (sink .warnings)) → n ≡ 0 + length (headOf (sink .errors) (sink .warnings))
     → Ran p n s o r s′ o′ → o′ ≡ sets l 0 (listingOf t (analyze p))
 unfolding firstLine
-listing-written p sink k h t e l {s = s} {n = n} {o = o} {r = r} {s′ = s′} {o′ = o′} a b w =
+listing-written p few sink k h t e l {s = s} {n = n} {o = o} {r = r} {s′ = s′} {o′ = o′} a b w =
     let f = few-of p sink k h in
     rw (← e)
-    (written p n s o r s′ o′ w f
+    (written p few n s o r s′ o′ w f
     ∙ rw (a, b, k .errors f, k .warnings f, zero-add (length (ended (firstLine (analyze p) ∷ [])))) (listing-stored (p .texts) (analyze p) l))
 
 -- what was kept, behind the first line, is the listing
@@ -54,28 +55,36 @@ unfolding isAccepted
 kept p l (refusal n q) e = refl
 kept p l (accepted errors warnings size) e = absurd (subst T e tt)
 
--- the ways out of `list`
-module _ (p : Program) (t : List Text) (e : p .texts ≡ t) {s l s′ : List ℕ} (sink : Sink) (k : Learnt p sink) (same : SameRest s s′) (a : AnswerValue) (j : answerOf a ≡ judgeDiagnostics (length l) p (analyze p)) where
-  pub list-refused : isAccepted (answerOf a) ≡ false → Judged p (judgeDiagnostics (length l) p (analyze p)) s l a s′ l
-  list-refused h = record { answers = j; listed = rw (← j) (kept p l (answerOf a) h); scratch = same }
+-- of a program: its keys first
+module _ (room : ℕ) (p : Program) where
+  keys-many : keyLimit < length (keys p) → judgeProgram room p ≡ refusal 7 0
+  unfolding judgeProgram
+  keys-many h = rw (lt-ltb 256 (length (keys p)) h, judgeProgram)
 
-  pub list-accepted : Listable sink (length l) → {s″ l″ : List ℕ} → l″ ≡ sets l 0 (listingOf t (analyze p)) → SameRest s′ s″ → Judged p (judgeDiagnostics (length l) p (analyze p)) s l a s″ l″
+  keys-fit : length (keys p) ≤ keyLimit → judgeProgram room p ≡ judgeDiagnostics room p (analyze p)
+  unfolding judgeProgram
+  keys-fit h = rw (le-ltb 256 (length (keys p)) h, judgeProgram)
+
+-- the keys are few where the first run has not one too many
+pub told-few : {p : Program} {r : Outcome} {stage : List ℕ} → Told p r stage → (r .keys ≡ 257 → ⊥) → length (keys p) ≤ keyLimit
+told-few {p = p} t n = omega (arith, t .counted)
+
+-- the ways out of `list`
+pub list-many : (p : Program) {s l s′ : List ℕ} (r : Outcome) {stage : List ℕ} → Told p r stage → r .keys ≡ 257 → SameRest s s′ → Judged p (judgeProgram (length l) p) s l (AnswerValue.Refused 7 0) s′ l
+list-many p {l = l} r t e same = rw (keys-many (length l) p (omega (arith, t .counted))) (record { answers = refl; listed = refl; scratch = same })
+
+module _ (p : Program) (few : length (keys p) ≤ keyLimit) (t : List Text) (e : p .texts ≡ t) {s l s′ : List ℕ} (sink : Sink) (k : Learnt p sink) (same : SameRest s s′) (a : AnswerValue) (j : answerOf a ≡ judgeDiagnostics (length l) p (analyze p)) where
+  pub list-refused : isAccepted (answerOf a) ≡ false → Judged p (judgeProgram (length l) p) s l a s′ l
+  list-refused h = rw (keys-fit (length l) p few) (record { answers = j; listed = rw (← j) (kept p l (answerOf a) h); scratch = same })
+
+  pub list-accepted : Listable sink (length l) → {s″ l″ : List ℕ} → l″ ≡ sets l 0 (listingOf t (analyze p)) → SameRest s′ s″ → Judged p (judgeProgram (length l) p) s l a s″ l″
   list-accepted f w q =
-      record {
+      rw (keys-fit (length l) p few)
+      (record {
         answers = j;
         listed = w ∙ rw (judged-fine p sink k (f .few) (length l) (f .fits), ← e) (listed-fine p sink k (f .few) l (f .fits));
         scratch = record { same-length = q .same-length ∙ same .same-length; same-rest = q .same-rest ∙ same .same-rest };
-      }
-
--- of a program: its keys first
-module _ (room : ℕ) (p : Program) (index index′ : List ℕ) (count : ℕ) (k : KeysAdded index index′ count (keys p)) where
-  pub keys-many : 256 < count → judgeProgram room p ≡ refusal 7 0
-  unfolding judgeProgram
-  keys-many h = rw (lt-ltb 256 (length (keys p)) (omega (arith, k .counted)), judgeProgram)
-
-  pub keys-fit : count ≤ 256 → judgeProgram room p ≡ judgeDiagnostics room p (analyze p)
-  unfolding judgeProgram
-  keys-fit h = rw (le-ltb 256 (length (keys p)) (omega (arith, k .counted)), judgeProgram)
+      })
 
 -- of a file
 no-variant : {C : Type 0} {n q : ℕ} → Validated.Refused n q ≡ Validated.Accepted → C

@@ -1,3 +1,4 @@
 pub mod Values
 pub mod Sink
 pub mod View
+pub mod Kept

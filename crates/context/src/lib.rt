@@ -106,9 +106,10 @@ pub struct After {
     pub sink: Sink,
 }
 
-// The walk on its way: the place in the tree, the listing, the marks.
+// The walk on its way: the place in the tree, the listing, how many keys there are in the index, the marks.
 pub struct State {
     pub at: usize,
     pub sink: Sink,
+    pub keys: usize,
     pub marks: [u16; 256],
 }

@@ -40,7 +40,7 @@ use Rattle.lines.specs.Values.{diagnosticOf, errorOf}
 use Rattle.tables.specs.Laws.{few-after}
 use Rattle.promises.specs.Emitted.{Emitted, emitted-then, emitted-as}
 use Rattle.promises.specs.Typings.{TypingOf}
-use Rattle.promises.specs.Walks.{Ready, StmtWalked}
+use Rattle.promises.specs.Walks.{stateOf, Ready, StmtWalked}
 use Rattle.promises.specs.WalkLaws.{marks-kept, context-is}
 use Rattle.declarations.specs.Says.{qualifierCode, codeSays, classicalRest}
 use Rattle.declarations.specs.Checked.{Declared, initAt}
@@ -145,7 +145,7 @@ module _ (tree index : List ℕ) (keys left : ℕ) (st : State) (h : IsOk (stmt 
     (declares : (ss : Symbols) → given ss (λ st. after ss st) (stmt (textsOf tree) left tree (st .at)) ≡ declare ss x (kindOf (symbol .kind)) (numberOf (symbol .size)) (symbol .«decl_span»))
     (spanned : given (symbol .«decl_span») stmtSpan (stmt (textsOf tree) left tree (st .at)) ≡ symbol .«decl_span»)
     (d : Declared (textsOf tree) (9 - left) x symbol (st .sink) s o s₁ s′ o₁) where
-  pub classical-walked : Emitted (textsOf tree) (classicalRest (scopesOf s′ (9 - left)) (functionsOf s′) (valueOr none (option qualifier tree (st .at + 1))) (typeOf (getD tree (nextOf (option qualifier tree (st .at + 1))) 0)) x (initAt tree (nextOf (option qualifier tree (st .at + 1)) + 3)) (symbol .«decl_span»)) s₁ o₁ r o′ → StmtWalked tree index keys left st s o (record { at = end; sink = r; marks = st .marks }) s′ o′
+  pub classical-walked : Emitted (textsOf tree) (classicalRest (scopesOf s′ (9 - left)) (functionsOf s′) (valueOr none (option qualifier tree (st .at + 1))) (typeOf (getD tree (nextOf (option qualifier tree (st .at + 1))) 0)) x (initAt tree (nextOf (option qualifier tree (st .at + 1)) + 3)) (symbol .«decl_span»)) s₁ o₁ r o′ → StmtWalked tree index keys left st s o (stateOf end r (st .marks)) s′ o′
   unfolding analyzeStmt after effect
   classical-walked m =
       let is = classicalDecl-is (textsOf tree) left tree (st .at) h b _ refl _ refl in

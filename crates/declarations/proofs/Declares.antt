@@ -28,7 +28,7 @@ use Rattle.context.specs.View.{keysIn, scopesOf, gatesOf, functionsOf, marksOf,
 use Rattle.tables.specs.Tables.{Becomes, FewParams}
 use Rattle.tables.specs.Laws.{few-after}
 use Rattle.promises.specs.Emitted.{Emitted, emitted-as}
-use Rattle.promises.specs.Walks.{Ready, StmtWalked}
+use Rattle.promises.specs.Walks.{stateOf, Ready, StmtWalked}
 use Rattle.promises.specs.WalkLaws.{marks-kept, context-is, stmt-walked}
 use Rattle.declarations.specs.Says.{declaredSays}
 use Rattle.declarations.specs.Checked.{Declared}
@@ -39,7 +39,7 @@ module _ (tree index : List ℕ) (keys left : ℕ) (st : State) {S : Stmt} {k : 
       → analyzeStmt (textsOf tree) S (contextOf tree (keysIn index keys) s (9 - left) (st .marks)) .0 ≡ record { symbols = ss; gates = gs; functions = fs; measured = marksOf tree (keysIn index keys) (st .marks) }
       → Becomes s s′ (9 - left) ss gs fs → ((d : ℕ) → d < 9 - left → scopesOf s′ d ≡ scopesOf s d) → FewParams (functionsOf s′)
       → Emitted (textsOf tree) (analyzeStmt (textsOf tree) S (contextOf tree (keysIn index keys) s (9 - left) (st .marks)) .1) (st .sink) o r o′
-      → StmtWalked tree index keys left st s o (record { at = end; sink = r; marks = st .marks }) s′ o′
+      → StmtWalked tree index keys left st s o (stateOf end r (st .marks)) s′ o′
   changed-walked end a h g b l f m =
       stmt-walked tree index keys left st e (record {
         at = a;
@@ -107,7 +107,7 @@ module _ (tree index : List ℕ) (keys left : ℕ) (st : State) (h : IsOk (stmt 
     (declares : (ss : Symbols) → given ss (λ st. after ss st) (stmt (textsOf tree) left tree (st .at)) ≡ declare ss x (kindOf (symbol .kind)) (numberOf (symbol .size)) (symbol .«decl_span»))
     (spanned : given (symbol .«decl_span») stmtSpan (stmt (textsOf tree) left tree (st .at)) ≡ symbol .«decl_span»)
     (d : Declared (textsOf tree) (9 - left) x symbol (st .sink) s o r s′ o′) where
-  registers : (b : ℕ) → getD tree (st .at) 0 ≡ b → 0 < b → b < 3 → StmtWalked tree index keys left st s o (record { at = end; sink = r; marks = st .marks }) s′ o′
+  registers : (b : ℕ) → getD tree (st .at) 0 ≡ b → 0 < b → b < 3 → StmtWalked tree index keys left st s o (stateOf end r (st .marks)) s′ o′
   unfolding analyzeStmt after effect
   registers zero e l u = absurd (omega arith)
   registers (suc zero) e l u =
@@ -120,5 +120,5 @@ module _ (tree index : List ℕ) (keys left : ℕ) (st : State) (h : IsOk (stmt 
       (emitted-as (d .emitted) (says-is x symbol declares spanned is _ _ _ _ _ refl))
   registers (suc (suc (suc b))) e l u = absurd (omega arith)
 
-  pub register-walked : 0 < getD tree (st .at) 0 → getD tree (st .at) 0 < 3 → StmtWalked tree index keys left st s o (record { at = end; sink = r; marks = st .marks }) s′ o′
+  pub register-walked : 0 < getD tree (st .at) 0 → getD tree (st .at) 0 < 3 → StmtWalked tree index keys left st s o (stateOf end r (st .marks)) s′ o′
   register-walked l u = registers (getD tree (st .at) 0) refl l u

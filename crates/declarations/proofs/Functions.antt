@@ -34,7 +34,7 @@ use Rattle.tables.specs.Laws.{scopes-below, scopes-fewer, few-defined, few-afte
 use Rattle.tables.specs.Params.{ParamsRead, params-read, function-read}
 use Rattle.promises.specs.Emitted.{Emitted, emitted-then, emitted-as}
 use Rattle.promises.specs.Typings.{TypingOf}
-use Rattle.promises.specs.Walks.{Ready, StmtWalked}
+use Rattle.promises.specs.Walks.{stateOf, Ready, StmtWalked}
 use Rattle.declarations.specs.declared.parts.Function.{Function}
 use Rattle.declarations.specs.Says.{definedSays, bodySays}
 use Rattle.declarations.specs.Checked.{paramsAt, FunctionAt, Defined, BodyChecked}
@@ -161,7 +161,7 @@ module _ {tree : List ℕ} {depth at : ℕ} {f : Function} {s : Sink} {scratch o
 
 pub function-walked : (tree index : List ℕ) (keys left : ℕ) (st : State) → left ≤ 8 → {f : Function} {s o : List ℕ} {s₁ : Sink} {scratch₁ o₁ : List ℕ} {r : Sink} {scratch′ o′ : List ℕ} → Ready tree s st → FunctionAt tree left (st .at) f
     → Defined tree (st .at + 3) f (st .sink) s o s₁ scratch₁ o₁ → BodyChecked tree (9 - left) (st .at + 3) f s₁ scratch₁ o₁ r scratch′ o′
-    → StmtWalked tree index keys left st s o (record { at = f .end; sink = r; marks = st .marks }) scratch′ o′
+    → StmtWalked tree index keys left st s o (stateOf (f .end) r (st .marks)) scratch′ o′
 unfolding analyzeStmt
 function-walked tree index keys left st u {f = f} {s = s} ready a d b =
     let l : 9 - left ≤ 9 = omega arith in

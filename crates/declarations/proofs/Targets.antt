@@ -33,7 +33,7 @@ use Rattle.lines.specs.declared.Message.{Message}
 use Rattle.lines.specs.Values.{diagnosticOf, errorOf}
 use Rattle.promises.specs.Emitted.{Emitted, emitted-then, emitted-as}
 use Rattle.promises.specs.Typings.{TypingOf}
-use Rattle.promises.specs.Walks.{Ready, StmtWalked}
+use Rattle.promises.specs.Walks.{stateOf, Ready, StmtWalked}
 use Rattle.promises.specs.WalkLaws.{marks-kept, context-is, same-walked}
 use Rattle.declarations.specs.Says.{spanned, targetBy}
 use Rattle.accepted.specs.Spans.{span-here, span-room}
@@ -101,7 +101,7 @@ module _ (tree index : List ℕ) (keys left : ℕ) (st : State) (h : IsOk (stmt 
   pub assignment-walked : {s o : List ℕ} {t : Typing} {o′ : List ℕ} {r : Sink} {o″ : List ℕ} (x : ℕ) (sp : Span) → Ready tree s st → TypingOf (textsOf tree) (scopesOf s (9 - left)) (functionsOf s) (held (textsOf tree) tree (st .at + 4)) (st .sink) o t o′
       → x ≡ numberAt 2 tree (st .at + 1) → sp ≡ spanAt tree (t .next)
       → Emitted (textsOf tree) (targetBy (get (scopesOf s (9 - left)) x) x (assignOpOf (getD tree (st .at + 3) 0)) (spanned (spanAt tree (t .next - 8))) sp (typedOf (t .typed))) (t .sink) o′ r o″
-      → StmtWalked tree index keys left st s o (record { at = t .next + 8; sink = r; marks = st .marks }) s o″
+      → StmtWalked tree index keys left st s o (stateOf (t .next + 8) r (st .marks)) s o″
   unfolding analyzeStmt after effect exprSpan
   assignment-walked x sp ready p e f m =
       let v = assignment-value (textsOf tree) left tree (st .at) h b in

@@ -20,7 +20,7 @@ use Rattle.context.specs.View.{numberAt, textPlace, TextAt, TextsAt}
 use Rattle.accepted.specs.Parts.{valueOr, next-is, value-is, Goes, start, field, known, past-here, checked, past-check, past-unit, ends}
 use Rattle.accepted.specs.Fields.{byte-is, number-in, number-is}
 use Rattle.accepted.specs.Files.{file-texts, texts-few, texts-are}
-use Rattle.index.specs.Kept.{text-moved}
+use Rattle.context.specs.Kept.{text-moved}
 
 within-is : {A : Type 0} (b : Bool) (size : ℕ) (x : Ans A) → IsOk (within b size x) → (b ≡ true) × (within b size x ≡ x)
 unfolding within IsOk

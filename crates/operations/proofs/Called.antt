@@ -27,7 +27,7 @@ use Rattle.accepted.specs.Parts.{valueOr, given-ok}
 use Rattle.accepted.specs.Stmts.{gateCall-name, gateCall-params, gateCall-args, gateCall-is, gateCall-inside}
 use Rattle.promises.specs.Emitted.{Emitted, emitted-as, emitted-then}
 use Rattle.promises.specs.Typings.{SaidOf, plainContext}
-use Rattle.promises.specs.Walks.{Ready, StmtWalked}
+use Rattle.promises.specs.Walks.{stateOf, Ready, StmtWalked}
 use Rattle.promises.specs.WalkLaws.{same-walked}
 use Rattle.operations.specs.declared.calls.Call.{Call}
 use Rattle.operations.specs.Calls.{CallOf, arityBy, standardBy, signatureBy}
@@ -95,7 +95,7 @@ pub call-walked : (tree index : List ℕ) (keys left : ℕ) (st : State) (h : Is
     → {r : Sink} {q : List ℕ} → Emitted (textsOf tree) (signatureBy (textsOf tree) (gatesOf s) c) (st .sink) o r q
     → {r′ : Sink} {q′ : List ℕ} → Emitted (textsOf tree) (checkModifiers (scopesOf s (9 - left)) (functionsOf s) (valueOr [] (vec (modifier (textsOf tree)) tree (st .at + 3))) ++ paramsSay (plainContext (scopesOf s (9 - left)) (functionsOf s)) (valueOr noExpr (exprs (held (textsOf tree)) tree (nextOf (vec (modifier (textsOf tree)) tree (st .at + 3)))))) r q r′ q′
     → {r″ : Sink} {o′ : List ℕ} → Emitted (textsOf tree) (useOperands (scopesOf s (9 - left)) (marksOf tree (keysIn index keys) (st .marks)) (c .span) (valueOr [] (vec (operand (textsOf tree)) tree (c .«args_at»))) ++ widthsSay (c .span) (registerWidths (scopesOf s (9 - left)) (valueOr [] (vec (operand (textsOf tree)) tree (c .«args_at»))))) r′ q′ r″ o′
-    → StmtWalked tree index keys left st s o (record { at = c .end + 8; sink = r″; marks = st .marks }) s o′
+    → StmtWalked tree index keys left st s o (stateOf (c .end + 8) r″ (st .marks)) s o′
 unfolding analyzeStmt after effect apply mark gateCallSays
 call-walked tree index keys left st h b c co {s} ready p v w =
     let d : SemaContext = contextOf tree (keysIn index keys) s (9 - left) (st .marks) in

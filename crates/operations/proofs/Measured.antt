@@ -18,6 +18,7 @@ use Rattle.tree.specs.Decode.{textsOf}
 use Rattle.sema.specs.Messages.{Diagnostic, aQubit, aBit, warning, alreadyMeasured}
 use Rattle.sema.specs.Symbols.{Symbols, get, after}
 use Rattle.sema.specs.Marks.{Key, Marks, sizeOf, markMeasured, effect, apply, lookupMeasured}
+use Rattle.sema.specs.Keys.{addMeasured, keysStmt}
 use Rattle.sema.specs.Operands.{isSome, unless, checkOperand}
 use Rattle.sema.specs.Stmts.{SemaContext, measureTarget, measureSays, analyzeStmt}
 use Rattle.context.specs.declared.GateOperand.{GateOperand as Operand}
@@ -25,7 +26,8 @@ use Rattle.context.specs.declared.Sink.{Sink}
 use Rattle.context.specs.declared.After.{After}
 use Rattle.context.specs.declared.State.{State}
 use Rattle.context.specs.Sink.{SinkFits}
-use Rattle.context.specs.Values.{operandOf}
+use Rattle.context.specs.declared.Number.{Number}
+use Rattle.context.specs.Values.{operandOf, numberOf, endsOf}
 use Rattle.context.specs.View.{numberAt, PlaceOk, Placed, scopesOf, keysIn, marksOf, markBy, measureSpan, spanAt, contextOf}
 use Rattle.accepted.specs.Cases.{blankOperand}
 use Rattle.accepted.specs.Parts.{valueOr, is-ok, given-ok, given-is, next-is, value-is, start, known, past-here, checked}
@@ -36,6 +38,7 @@ use Rattle.accepted.specs.Bodies.{stmt-goes}
 use Rattle.accepted.specs.Marked.{measured-span}
 use Rattle.accepted.specs.Stmts as of
 use Rattle.sheet.specs.Sheet.{Covers, measuring, lookupIn}
+use Rattle.promises.specs.Went.{stmtKeys}
 use Rattle.sheet.specs.Places.{lookup-marks}
 use Rattle.sheet.specs.Effects.{measured-is}
 use Rattle.lines.specs.declared.Message.{Message}
@@ -43,7 +46,7 @@ use Rattle.lines.specs.declared.Diagnostic.{Diagnostic as DiagnosticValue}
 use Rattle.lines.specs.Values.{warningOf, Reported}
 use Rattle.promises.specs.Emitted.{Emitted, emitted-none, emitted-as, emitted-then, unless-holds, unless-fails}
 use Rattle.promises.specs.Typings.{SaidOf}
-use Rattle.promises.specs.Walks.{Ready, StmtKeyed, StmtWalked}
+use Rattle.promises.specs.Walks.{stateOf, Ready, StmtKeyed, StmtWalked}
 use Rattle.promises.specs.WalkLaws.{same-walked}
 use Rattle.operands.specs.Widths.{measureWidths, measure-target}
 use Rattle.operations.proofs.Simple.{said-ok, context-by}
@@ -176,9 +179,18 @@ module _ (tree : List ℕ) (left : ℕ) (st : State) (h : IsOk (stmt (textsOf tr
       → SaidOf (textsOf tree) (λ target. measureSays (contextOf tree (keysIn index keys) s (9 - left) (st .marks)) (operandOf op) target (spanAt tree (a .next))) (option (operand (textsOf tree)) tree k) (st .sink) o a o′
       → (sheet : List ℕ) → marksOf tree (keysIn index keys) sheet ≡ apply (markMeasured (scopesOf s (9 - left)) (operandOf op)) (measureSpan tree (st .at)) (marksOf tree (keysIn index keys) (st .marks))
       → (PlaceOk tree (st .at) → Placed tree (st .marks) → Placed tree sheet)
-      → StmtWalked tree index keys left st s o (record { at = a .next + 8; sink = a .sink; marks = sheet }) s o′
+      → StmtWalked tree index keys left st s o (stateOf (a .next + 8) (a .sink) sheet) s o′
   unfolding analyzeStmt after effect
   measure-walked index keys {s} ready a p sheet m q =
       same-walked tree index keys left st (measure-read (a .next) (p .next)) ready refl
       (context-by tree (keysIn index keys) sheet s (9 - left) (rw (measured-span left tree (st .at) h b k (sym (next-is e)) (a .next) (p .next)) at m))
       (said-ok none measure-option p) (q (place-ok left tree (st .at) h b) (ready .placed))
+
+-- the keys that a measure statement sets
+pub measured-keys : (tree : List ℕ) (left at : ℕ) → IsOk (stmt (textsOf tree) left tree at) → getD tree at 0 ≡ 8 → (op : Operand) (m : ℕ) → operand (textsOf tree) tree (at + 1) ≡ ok (operandOf op) m
+    → (ss : Symbols) (size : Number) → numberOf size ≡ sizeOf (get ss (op .name)) → (ks : List Key) → addMeasured ks (op .name) (numberOf size) (endsOf (op .slice)) (numberOf (op .index)) ≡ stmtKeys (stmt (textsOf tree) left tree at) ss ks
+unfolding keysStmt
+measured-keys tree left at h b op m e ss size f ks =
+    let is = of.measure-is (textsOf tree) left tree at h b m (sym (next-is e)) _ refl in
+    let q : valueOr blankOperand (operand (textsOf tree) tree (at + 1)) ≡ operandOf op = value-is e blankOperand in
+    rw (given-is is ks (λ st. keysStmt st ss ks), q, ← f)

@@ -27,7 +27,7 @@ use Rattle.accepted.specs.Parts.{valueOr, given-ok, next-is, value-is}
 use Rattle.accepted.specs.Stmts as of
 use Rattle.promises.specs.Emitted.{Emitted, emitted-none, emitted-as, emitted-then}
 use Rattle.promises.specs.Typings.{SaidOf}
-use Rattle.promises.specs.Walks.{Ready, StmtWalked}
+use Rattle.promises.specs.Walks.{stateOf, Ready, StmtWalked}
 use Rattle.promises.specs.WalkLaws.{same-walked}
 
 -- what was said of a value that was read
@@ -43,14 +43,14 @@ pub context-by : (tree : List ℕ) (ks : List Key) (sheet : List ℕ) {m : Marks
 context-by tree ks sheet s depth e = ap (λ (m : Marks). record { symbols = scopesOf s depth; gates = gatesOf s; functions = functionsOf s; measured = m }) e
 
 module _ (tree index : List ℕ) (keys left : ℕ) (st : State) (h : IsOk (stmt (textsOf tree) left tree (st .at))) where
-  pub include-walked : {s o : List ℕ} → Ready tree s st → getD tree (st .at) 0 ≡ 0 → StmtWalked tree index keys left st s o (record { at = st .at + 11; sink = st .sink; marks = st .marks }) s o
+  pub include-walked : {s o : List ℕ} → Ready tree s st → getD tree (st .at) 0 ≡ 0 → StmtWalked tree index keys left st s o (stateOf (st .at + 11) (st .sink) (st .marks)) s o
   unfolding analyzeStmt after effect apply mark
   include-walked ready b =
       same-walked tree index keys left st (of.include-is (textsOf tree) left tree (st .at) h b) ready refl refl (emitted-none (ready .fits)) (ready .placed)
 
   pub barrier-walked : {s o : List ℕ} → Ready tree s st → getD tree (st .at) 0 ≡ 10 → (a : After) {o′ : List ℕ}
       → SaidOf (textsOf tree) (useOperands (scopesOf s (9 - left)) (marksOf tree (keysIn index keys) (st .marks)) (spanAt tree (a .next))) (vec (operand (textsOf tree)) tree (st .at + 1)) (st .sink) o a o′
-      → StmtWalked tree index keys left st s o (record { at = a .next + 8; sink = a .sink; marks = st .marks }) s o′
+      → StmtWalked tree index keys left st s o (stateOf (a .next + 8) (a .sink) (st .marks)) s o′
   unfolding analyzeStmt after effect apply mark
   barrier-walked ready b a p =
       same-walked tree index keys left st (of.barrier-is (textsOf tree) left tree (st .at) h b (a .next) (p .next)) ready refl refl
@@ -60,7 +60,7 @@ module _ (tree index : List ℕ) (keys left : ℕ) (st : State) (h : IsOk (stmt 
       → SaidOf (textsOf tree) (λ e. requireNumeric (scopesOf s (9 - left)) (functionsOf s) e Messages.delayNumeric) (held (textsOf tree) tree (st .at + 1)) (st .sink) o a q
       → (r : After) {o′ : List ℕ}
       → SaidOf (textsOf tree) (useOperands (scopesOf s (9 - left)) (marksOf tree (keysIn index keys) (st .marks)) (spanAt tree (r .next))) (vec (operand (textsOf tree)) tree (a .next)) (a .sink) q r o′
-      → StmtWalked tree index keys left st s o (record { at = r .next + 8; sink = r .sink; marks = st .marks }) s o′
+      → StmtWalked tree index keys left st s o (stateOf (r .next + 8) (r .sink) (st .marks)) s o′
   unfolding analyzeStmt after effect apply mark
   delay-walked ready b a d r p =
       same-walked tree index keys left st (of.delay-is (textsOf tree) left tree (st .at) h b (a .next) (d .next) (r .next) (p .next)) ready refl refl
@@ -74,7 +74,7 @@ module _ (tree index : List ℕ) (keys left : ℕ) (st : State) (h : IsOk (stmt 
 
     pub reset-walked : {s o : List ℕ} → Ready tree s st → {r : Sink} {o′ : List ℕ} → Emitted (textsOf tree) (checkOperand (scopesOf s (9 - left)) (operandOf op) aQubit) (st .sink) o r o′
         → (sheet : List ℕ) → ((sp : Span) → marksOf tree (keysIn index keys) sheet ≡ apply (clearMeasured (operandOf op)) sp (marksOf tree (keysIn index keys) (st .marks)))
-        → Placed tree sheet → StmtWalked tree index keys left st s o (record { at = k + 8; sink = r; marks = sheet }) s o′
+        → Placed tree sheet → StmtWalked tree index keys left st s o (stateOf (k + 8) r sheet) s o′
     unfolding analyzeStmt after effect
     reset-walked {s} ready p sheet m q =
         same-walked tree index keys left st reset-read ready refl (context-by tree (keysIn index keys) sheet s (9 - left) (m (spanAt tree k))) p q

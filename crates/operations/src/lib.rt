@@ -3,7 +3,7 @@ mod calls;
 mod measures;
 
 ghost use mathlib.Core.Path.{_≡_};
-ghost use Prim.Native.Nat.{_+_, _-_, _≤_};
+ghost use Prim.Native.Nat.{ℕ, _+_, _-_, _≤_};
 ghost use lib.ListN.{length, getD};
 ghost use Rattle.tree.specs.Ans.{IsOk, nextOf};
 ghost use Rattle.tree.specs.Read.{vec};
@@ -12,6 +12,9 @@ ghost use Rattle.tree.specs.Decode.{textsOf};
 ghost use Rattle.sema.specs.Operands.{useOperands};
 ghost use Rattle.context.specs.Sink.{SinkFits};
 ghost use Rattle.context.specs.View.{Placed, scopesOf, keysIn, marksOf, spanAt};
+ghost use Rattle.sheet.specs.Behind.{Blank};
+ghost use Rattle.sheet.specs.Sheet.{Indexed, KeysAdded};
+ghost use Rattle.promises.specs.Went.{stmtKeys};
 ghost use Rattle.promises.specs.Typings.{SaidOf};
 ghost use Rattle.promises.specs.Walks.{stateOf, Walkable, Ready, Passable, StmtKeyed, StmtWalked, StmtPassed};
 use accepted::numbers::span_at;
@@ -170,7 +173,8 @@ pub fn reset(
     sink: Sink,
 ) -> After
     requires { ⌜ Walkable (now tree) (now index) keys × Ready (now tree) (now scratch) (stateOf at sink (now marks)) × IsOk (stmt (textsOf (now tree)) left (now tree) at) × (left ≤ 8) × (getD (now tree) at 0 ≡ 9) ⌝ }
-    ensures { λ r. ⌜ StmtWalked (now (tree .entry)) (now (index .entry)) keys left (stateOf at sink (now (marks .entry))) (now (scratch .entry)) (now (out .entry)) (stateOf (r .next) (r .sink) (now (marks .exit))) (now (scratch .entry)) (now (out .exit)) ⌝ }
+    ensures walked { λ r. ⌜ StmtWalked (now (tree .entry)) (now (index .entry)) keys left (stateOf at sink (now (marks .entry))) (now (scratch .entry)) (now (out .entry)) (stateOf (r .next) (r .sink) (now (marks .exit))) (now (scratch .entry)) (now (out .exit)) ⌝ }
+    ensures behind { λ _. ⌜ ((n : ℕ) → keys ≤ n → Blank n (now (marks .entry)) → Blank n (now (marks .exit))) ⌝ }
 {
     let r = operand_at(tree, at + 1);
     let op = r.operand;
@@ -191,6 +195,25 @@ pub fn reset(
     }
 }
 
+// The keys in the index, with those that the measure statement at `at` sets; 257 is too many.
+pub fn add_keys(
+    tree: &[u8],
+    index: &mut Index,
+    scratch: &[u8],
+    keys: usize,
+    left: usize,
+    at: usize,
+) -> usize
+    requires { ⌜ IsOk (stmt (textsOf (now tree)) left (now tree) at) × (left ≤ 8) × (length (textsOf (now tree)) ≤ 256) × (65536 ≤ length (now scratch)) × Indexed (now index) keys × (getD (now tree) at 0 ≡ 8) ⌝ }
+    ensures added { λ r. ⌜ KeysAdded (now (index .entry)) (now (index .exit)) r (stmtKeys (stmt (textsOf (now (tree .entry))) left (now (tree .entry)) at) (scopesOf (now (scratch .entry)) (9 - left)) (keysIn (now (index .entry)) keys)) ⌝ }
+    ensures index { λ _. ⌜ length (now (index .exit)) ≡ length (now (index .entry)) ⌝ }
+{
+    let o = operand_at(tree, at + 1);
+    let op = o.operand;
+    let size = tables::size_of(scratch, 9 - left, op.name);
+    sheet::new_keys::add_measured(index, keys, op, size)
+}
+
 // A measurement: its operands, and the marks that it sets.
 pub fn measure(
     tree: &[u8],
@@ -205,7 +228,8 @@ pub fn measure(
 ) -> After
     requires { ⌜ Walkable (now tree) (now index) keys × Ready (now tree) (now scratch) (stateOf at sink (now marks)) × IsOk (stmt (textsOf (now tree)) left (now tree) at) × (left ≤ 8) × (getD (now tree) at 0 ≡ 8) ⌝ }
     requires { ⌜ StmtKeyed (keysIn (now index) keys) (scopesOf (now scratch) (9 - left)) (stmt (textsOf (now tree)) left (now tree) at) ⌝ }
-    ensures { λ r. ⌜ StmtWalked (now (tree .entry)) (now (index .entry)) keys left (stateOf at sink (now (marks .entry))) (now (scratch .entry)) (now (out .entry)) (stateOf (r .next) (r .sink) (now (marks .exit))) (now (scratch .entry)) (now (out .exit)) ⌝ }
+    ensures walked { λ r. ⌜ StmtWalked (now (tree .entry)) (now (index .entry)) keys left (stateOf at sink (now (marks .entry))) (now (scratch .entry)) (now (out .entry)) (stateOf (r .next) (r .sink) (now (marks .exit))) (now (scratch .entry)) (now (out .exit)) ⌝ }
+    ensures behind { λ _. ⌜ ((n : ℕ) → keys ≤ n → Blank n (now (marks .entry)) → Blank n (now (marks .exit))) ⌝ }
 {
     let q = operand_at(tree, at + 1);
     let qubit = q.operand;

@@ -17,6 +17,7 @@ ghost use Rattle.context.specs.Sink.{SinkFits};
 ghost use Rattle.context.specs.Values.{numberOf, operandOf};
 ghost use Rattle.context.specs.View.{TextsAt, PlaceOk, Placed, scopesOf, keysIn, marksOf, measureSpan, spanAt, contextOf};
 ghost use Rattle.sheet.specs.Sheet.{Indexed, Covers};
+ghost use Rattle.sheet.specs.Behind.{Blank};
 ghost use Rattle.promises.specs.Emitted.{Emitted};
 ghost use Rattle.promises.specs.Typings.{SaidOf};
 ghost use Rattle.promises.specs.Walks.{Walkable};
@@ -43,6 +44,7 @@ pub fn mark_measured(
     requires { ⌜ (length (now marks) ≡ 256) × Indexed (now index) keys × (65536 ≤ length (now scratch)) × (depth ≤ 9) × (qubit .name < 256) × (0 < at) × (at < 65536) × Covers (keysIn (now index) keys) (markMeasured (scopesOf (now scratch) depth) (operandOf qubit)) ⌝ }
     ensures placed { λ _. ⌜ ((tree : List ℕ) → PlaceOk tree at → Placed tree (now (marks .entry)) → Placed tree (now (marks .exit))) ⌝ }
     ensures marks { λ _. ⌜ ((tree : List ℕ) → marksOf tree (keysIn (now (index .entry)) keys) (now (marks .exit)) ≡ apply (markMeasured (scopesOf (now (scratch .entry)) depth) (operandOf qubit)) (measureSpan tree at) (marksOf tree (keysIn (now (index .entry)) keys) (now (marks .entry)))) ⌝ }
+    ensures behind { λ _. ⌜ ((n : ℕ) → keys ≤ n → Blank n (now (marks .entry)) → Blank n (now (marks .exit))) ⌝ }
 {
     let name = qubit.name;
     let size = tables::size_of(scratch, depth, name);

@@ -13,7 +13,7 @@ use Rattle.sema.specs.Messages.{Diagnostic}
 use Rattle.sema.specs.Symbols.{Symbols}
 use Rattle.sema.specs.Marks.{Key}
 use Rattle.sema.specs.Keys.{hasKey}
-use Rattle.sema.specs.KeyCount.{SetsStmt, Sets}
+use Rattle.sema.specs.KeyCount.{SetsStmt}
 use Rattle.sema.specs.Stmts.{SemaContext, analyzeStmt, analyzeStmts}
 use Rattle.context.specs.declared.After.{After}
 use Rattle.context.specs.declared.Sink.{Sink}
@@ -24,9 +24,9 @@ use Rattle.tables.specs.Tables.{tablesEnd, FewParams}
 use Rattle.sheet.specs.Sheet.{Indexed, Distinct}
 use Rattle.promises.specs.Emitted.{Emitted}
 
--- a state from its parts
+-- a state from its parts, where it plays no part how many keys there are
 abbrev pub stateOf : ℕ → Sink → List ℕ → State
-stateOf at sink marks = record { at = at; sink = sink; marks = marks }
+stateOf at sink marks = record { at = at; sink = sink; keys = 0; marks = marks }
 
 -- what holds before every statement of a walk, whatever the state
 pub record Walkable (tree index : List ℕ) (keys : ℕ) : Type 0 where
@@ -50,15 +50,9 @@ pub record Passable (tree index scratch : List ℕ) (sink : Sink) : Type 0 where
   pub few : FewParams (functionsOf scratch)
   pub fits : SinkFits sink
 
--- every key that is set by what was read is in the table: of a statement, of the statements of a body
-pub record Keyed {A : Type 0} (sets : A → Symbols → Key → Type 0) (ks : List Key) (ss : Symbols) (x : Ans A) : Type 0 where
-  pub each : (v : A) (n : ℕ) → x ≡ ok v n → (k : Key) → sets v ss k → hasKey ks k ≡ true
-
-abbrev pub StmtKeyed : List Key → Symbols → Ans Stmt → Type 0
-StmtKeyed = Keyed SetsStmt
-
-abbrev pub BodyKeyed : List Key → Symbols → Ans Stmts → Type 0
-BodyKeyed = Keyed Sets
+-- every key that the statement that was read sets is in the table
+pub record StmtKeyed (ks : List Key) (ss : Symbols) (x : Ans Stmt) : Type 0 where
+  pub each : (st : Stmt) (n : ℕ) → x ≡ ok st n → (k : Key) → SetsStmt st ss k → hasKey ks k ≡ true
 
 -- what the analysis makes of the statement, or of the statements of a body, that was read
 abbrev pub Walk : Type 0

@@ -1,10 +1,10 @@
 -- How texts are spelled, and whether two are equal: a law for each way out of the code. Assumes nothing.
-use Prim.Native.Nat.{ℕ, suc, _<_, _≤_, _+_, _-_, _*_, _^_}
+use Prim.Native.Nat.{ℕ, suc, _<_, _≤_, _+_, _-_, _*_, _/_, _%_, _^_}
 use mathlib.Core.Path.{_≡_, refl, sym, ap, _∙_}
 use mathlib.Core.List.{List, [], _∷_}
 use mathlib.Core.Bool.{Bool, true, false, _&&_, _||_, or-false, and-false, and-true, and-comm, and-assoc}
 use native.Mathlib.Omega.{arith}
-use native.Mathlib.Nat.{mod-lt, le-refl}
+use native.Mathlib.Nat.{mod-lt, le-refl, div-add-mod, add-mul-mod-self-left}
 use native.Mathlib.Numerals.{add-one}
 use lib.ListN.{length, getD, take, drop, drop-of-length-le, length-drop}
 use lib.Seq.{drop-cons}
@@ -203,7 +203,7 @@ sum-one h a (b ∷ c ∷ d ∷ cs) l = absurd (omega arith)
 
 -- the checksum: what remains from `i` on decides
 pub record Summing (x : List ℕ) (h i : ℕ) : Type 0 where
-  pub low : h < 2 ^ 56
+  pub low : h < 2 ^ 48
   pub within : i ≤ length x
   pub remain : checksum x ≡ sumFrom h (drop i x)
 
@@ -234,7 +234,19 @@ module _ (x : List ℕ) (h i : ℕ) (summing : Summing x h i) where
   unfolding sumFrom
   summing-end l = sym (summing .remain ∙ rw (drop-of-length-le x l) refl)
 
-pub ruleset summed = (summing-start, summing-four, summing-one, summing-end)
+-- two numbers at once
+pub mix-twice : (h v w : ℕ) → (h * 24649 + v * 157 + w) % 2 ^ 48 ≡ mix (mix h v) w
+mix-twice h v w = ap (λ n. n % 2 ^ 48) (whole ((h * 157 + v) / 2 ^ 48) ((h * 157 + v) % 2 ^ 48) (div-add-mod (h * 157 + v) (2 ^ 48))) ∙ add-mul-mod-self-left (mix h v * 157 + w) (2 ^ 48) ((h * 157 + v) / 2 ^ 48 * 157)
+  where
+    whole : (q r : ℕ) → 2 ^ 48 * q + r ≡ h * 157 + v → h * 24649 + v * 157 + w ≡ r * 157 + w + 2 ^ 48 * (q * 157)
+    whole q r e = omega arith
+
+pub summing-eight : (x : List ℕ) (h i : ℕ) → Summing x h i → i + 8 ≤ length x → (v : ℕ) → v ≡ fourAt x i → (w : ℕ) → w ≡ fourAt x (i + 4) → (r : ℕ) → r ≡ mix (mix h v) w → Summing x r (i + 8)
+summing-eight x h i summing l v e w f r g =
+    let on : i + 8 ≡ i + 4 + 4 = omega arith in
+    rw on (summing-four x (mix h v) (i + 4) (summing-four x h i summing (omega arith) v e (mix h v) refl) (omega arith) w f r g)
+
+pub ruleset summed = (summing-start, summing-eight, summing-four, summing-one, summing-end)
 
 -- two texts byte by byte
 pub same-lengths : (x y : List ℕ) → (length x ≡ length y → ⊥) → false ≡ same x y

@@ -46,7 +46,7 @@ kindsOf s = map kindOf (textsOf s)
 
 -- a checksum with a number put in
 abbrev pub mix : ℕ → ℕ → ℕ
-mix h w = (h * 157 + w) % 2 ^ 56
+mix h w = (h * 157 + w) % 2 ^ 48
 
 -- four bytes as one number
 abbrev pub four : ℕ → ℕ → ℕ → ℕ → ℕ

@@ -16,8 +16,8 @@ pub const FLOAT: u8 = 2;
 
 const POINT: u8 = 46;
 
-// A checksum is below 2^56.
-const SUM_LIMIT: u64 = 72057594037927936;
+// A checksum is below 2^48.
+const SUM_LIMIT: u64 = 281474976710656;
 
 fn is_letter(c: u8) -> bool
     ensures { λ r. ⌜ r ≡ letter c ⌝ }
@@ -138,10 +138,18 @@ pub fn kind(x: &[u8]) -> u8
 
 // A checksum with a number put in.
 fn mixed(h: u64, w: u64) -> u64
-    requires { ⌜ (h < 2 ^ 56) × (w < 2 ^ 32) ⌝ }
+    requires { ⌜ (h < 2 ^ 48) × (w < 2 ^ 32) ⌝ }
     ensures { λ r. ⌜ r ≡ mix h w ⌝ }
 {
     (h * 157 + w) % SUM_LIMIT
+}
+
+// A checksum with two numbers put in, at once: 24649 is the square of 157.
+fn mixed_twice(h: u64, v: u64, w: u64) -> u64
+    requires { ⌜ (h < 2 ^ 48) × (v < 2 ^ 32) × (w < 2 ^ 32) ⌝ }
+    ensures { λ r. ⌜ r ≡ mix (mix h v) w ⌝ }
+{
+    (h * 24649 + v * 157 + w) % SUM_LIMIT
 }
 
 // Four bytes as one number.
@@ -158,6 +166,10 @@ pub fn checksum(x: &[u8]) -> u64
 {
     let mut h = 0;
     let mut i = 0;
+    while i + 8 <= x.len() {
+        h = mixed_twice(h, four_at(x, i), four_at(x, i + 4));
+        i += 8;
+    }
     while i + 4 <= x.len() {
         h = mixed(h, four_at(x, i));
         i += 4;

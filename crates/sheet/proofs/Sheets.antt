@@ -16,6 +16,7 @@ use Rattle.sheet.specs.Sheet.{first, stored, united, reaches, touches, m
 use Rattle.sheet.specs.Effects.{marks-set, marks-clear, marks-united}
 use Rattle.sheet.specs.Table.{length-keys}
 use Rattle.sheet.specs.Kept.{stored-placed, united-placed}
+use Rattle.sheet.specs.Behind.{Blank, stored-behind, united-behind}
 use Rattle.sheet.proofs.Loops.{rest, rest-more, rest-end, rest-all}
 
 -- a store at i of what is next
@@ -93,6 +94,12 @@ module _ (ks : List Key) (sheet r : List ℕ) (t : Key → Bool) where
   pub clear-placed : r ≡ stored t 0 ks sheet → (tree : List ℕ) → Placed tree sheet → Placed tree r
   clear-placed e tree g = store-placed 0 e tree tt g
 
+-- behind the keys nothing is stored
+pub store-behind : (index : List ℕ) (count : ℕ) (sheet r : List ℕ) (t : Key → Bool) (p : ℕ) → r ≡ stored t p (keysIn index count) sheet
+    → (n : ℕ) → count ≤ n → Blank n sheet → Blank n r
+store-behind index count sheet r t p e n l h =
+    rw e (stored-behind t p (keysIn index count) sheet n (omega (arith, length-keys index 0 count)) h)
+
 -- the first i places are united
 pub record Uniting (a b r : List ℕ) (i : ℕ) : Type 0 where
   pub within : i ≤ 256
@@ -138,4 +145,7 @@ module _ (a b r : List ℕ) (i : ℕ) (u : Uniting a b r i) (h : 256 ≤ i) wher
   pub uniting-placed : (tree : List ℕ) → Placed tree a → Placed tree b → Placed tree r
   uniting-placed tree e f = rw (← all-united) (united-placed tree a b e f)
 
-pub ruleset uniting = (uniting-start, uniting-more, uniting-end, uniting-placed)
+  pub uniting-behind : (n : ℕ) → Blank n a → Blank n b → Blank n r
+  uniting-behind n e f = rw (← all-united) (united-behind a b n e f)
+
+pub ruleset uniting = (uniting-start, uniting-more, uniting-end, uniting-placed, uniting-behind)

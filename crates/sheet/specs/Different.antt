@@ -1,14 +1,12 @@
--- No two keys of a tree are equal. Assumes nothing.
+-- A key more, if it is not there, makes no two keys equal. Assumes nothing.
 use mathlib.Core.Path.{_≡_, refl, sym, _∙_}
 use mathlib.Core.List.{List, [], _∷_, _++_}
 use mathlib.Core.Bool.{false, _||_, false≢true}
-use Rattle.ast.specs.Tree.{Program}
-use Rattle.sema.specs.Symbols.{empty}
 use Rattle.sema.specs.Marks.{Key}
-use Rattle.sema.specs.Keys.{sameKey, hasKey, addKey, keys}
+use Rattle.sema.specs.Keys.{sameKey, hasKey, addKey}
 use Rattle.sheet.specs.Sheet.{Distinct}
 use Rattle.sheet.specs.Places.{by-test, key-eq, same-key, has-here, has-there}
-use Rattle.sheet.specs.Table.{add-there, add-new, keep-stmts}
+use Rattle.sheet.specs.Table.{add-there, add-new}
 
 -- a key behind others
 has-behind : (ks : List Key) (l k : Key) → hasKey (ks ++ l ∷ []) k ≡ (hasKey ks k || sameKey l k)
@@ -26,12 +24,8 @@ distinct-behind (l ∷ ks) k d e =
     let f : sameKey k l ≡ false = by-test (sameKey k l) (λ u. absurd (false≢true (sym t ∙ rw (key-eq k l u) (same-key l)))) (λ u. u) in
     (has-behind ks k l ∙ rw (d .0, f), distinct-behind ks k (d .1) (sym (has-there l ks k t) ∙ e)))
 
-more-distinct : (ks : List Key) (k : Key) → Distinct ks → Distinct (addKey ks k)
+pub more-distinct : (ks : List Key) (k : Key) → Distinct ks → Distinct (addKey ks k)
 more-distinct ks k d =
     by-test (hasKey ks k)
     (λ e. rw (add-there ks k e) d)
     (λ e. rw (add-new ks k e) (distinct-behind ks k d e))
-
-pub distinct-keys : (p : Program) → Distinct (keys p)
-unfolding keys Distinct
-distinct-keys p = keep-stmts Distinct more-distinct (p .statements) (empty ∷ []) [] tt

@@ -6,3 +6,4 @@ pub mod Table
 pub mod Smallest
 pub mod Different
 pub mod Kept
+pub mod Behind

@@ -1,11 +1,11 @@
 // The mark sheet: for each key of the index the place of the measure statement that marked it, or 0.
-// The walk over a tree calls these functions. Its index is the one that is made before the walk, with all keys of the tree in it.
+// The walk over a tree calls these functions. The index has the keys that it has met; behind them the sheet is blank.
 pub mod new_keys;
 
 ghost use mathlib.Core.Path.{_≡_};
 ghost use mathlib.Core.List.{List};
 ghost use mathlib.Core.Bool.{cond, _&&_};
-ghost use Prim.Native.Nat.{ℕ, _+_, _*_, _<_};
+ghost use Prim.Native.Nat.{ℕ, _+_, _*_, _≤_, _<_};
 ghost use lib.ListN.{length};
 ghost use lib.Dec.{eqb};
 ghost use Rattle.span.specs.declared.Span.{Span};
@@ -14,6 +14,7 @@ ghost use Rattle.sema.specs.Keys.{sameKey};
 ghost use Rattle.context.specs.Values.{numberOf, endsOf, operandOf};
 ghost use Rattle.context.specs.View.{keyBy, keyAt, keysIn, placeIn, marksOf, measureSpan, PlaceOk, Placed};
 ghost use Rattle.sheet.specs.Sheet.{Indexed, lookupIn, smaller, offer, leastIn, smallestIn, Distinct, Covers, reaches, touches, measuring, stored, first};
+ghost use Rattle.sheet.specs.Behind.{Blank};
 use context::Ends;
 use context::GateOperand;
 use context::Index;
@@ -263,8 +264,7 @@ fn store(
     }
 }
 
-// `mark_measured` by the measure statement at a place, where the operand's name shows a size. The keys of the index are all that the
-// tree's measure statements set.
+// `mark_measured` by the measure statement at a place, where the operand's name shows a size. Its keys are in the index.
 pub fn set(
     sheet: &mut [u16; 256],
     index: &Index,
@@ -279,6 +279,7 @@ pub fn set(
     requires { ⌜ Covers (keysIn (now index) count) (measuring (numberOf size) (operandOf op)) ⌝ }
     ensures placed { λ _. ⌜ ((tree : List ℕ) → PlaceOk tree place → Placed tree (now (sheet .entry)) → Placed tree (now (sheet .exit))) ⌝ }
     ensures marks { λ _. ⌜ ((tree : List ℕ) → marksOf tree (keysIn (now (index .entry)) count) (now (sheet .exit)) ≡ apply (measuring (numberOf size) (operandOf op)) (measureSpan tree place) (marksOf tree (keysIn (now (index .entry)) count) (now (sheet .entry)))) ⌝ }
+    ensures behind { λ _. ⌜ ((n : ℕ) → count ≤ n → Blank n (now (sheet .entry)) → Blank n (now (sheet .exit))) ⌝ }
 {
     store(sheet, index, count, op, size, false, place);
 }
@@ -289,6 +290,7 @@ pub fn clear(sheet: &mut [u16; 256], index: &Index, count: usize, op: GateOperan
     requires { ⌜ Indexed (now index) count ⌝ }
     ensures placed { λ _. ⌜ ((tree : List ℕ) → Placed tree (now (sheet .entry)) → Placed tree (now (sheet .exit))) ⌝ }
     ensures marks { λ _. ⌜ ((tree : List ℕ) (sp : Span) → marksOf tree (keysIn (now (index .entry)) count) (now (sheet .exit)) ≡ apply (clearMeasured (operandOf op)) sp (marksOf tree (keysIn (now (index .entry)) count) (now (sheet .entry)))) ⌝ }
+    ensures behind { λ _. ⌜ ((n : ℕ) → count ≤ n → Blank n (now (sheet .entry)) → Blank n (now (sheet .exit))) ⌝ }
 {
     store(sheet, index, count, op, Number::None, true, 0);
 }
@@ -298,6 +300,7 @@ pub fn unite(a: &[u16; 256], b: &mut [u16; 256])
     requires { ⌜ (length (now a) ≡ 256) × (length (now b) ≡ 256) ⌝ }
     ensures placed { λ _. ⌜ ((tree : List ℕ) → Placed tree (now (a .entry)) → Placed tree (now (b .entry)) → Placed tree (now (b .exit))) ⌝ }
     ensures marks { λ _. ⌜ ((tree : List ℕ) (ks : List Key) → marksOf tree ks (now (b .exit)) ≡ uniteMarks (marksOf tree ks (now (a .entry))) (marksOf tree ks (now (b .entry)))) ⌝ }
+    ensures behind { λ _. ⌜ ((n : ℕ) → Blank n (now (a .entry)) → Blank n (now (b .entry)) → Blank n (now (b .exit))) ⌝ }
 {
     let mut i = 0;
     while i < 256 {
@@ -309,6 +312,7 @@ pub fn unite(a: &[u16; 256], b: &mut [u16; 256])
 pub fn blank() -> [u16; 256]
     ensures placed { λ r. ⌜ ((tree : List ℕ) → Placed tree r) ⌝ }
     ensures marks { λ r. ⌜ ((tree : List ℕ) (ks : List Key) → marksOf tree ks r ≡ noMarks) ⌝ }
+    ensures behind { λ r. ⌜ Blank 0 r ⌝ }
 {
     [0u16; 256]
 }

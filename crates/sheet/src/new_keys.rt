@@ -1,4 +1,4 @@
-// Keys that are added to the index, before the walk.
+// Keys that are added to the index, as the walk meets measure statements.
 ghost use mathlib.Core.Path.{_≡_};
 ghost use mathlib.Core.Option.{none};
 ghost use Prim.Native.Nat.{suc, _+_, _-_, _^_, _≤_, _<_, min};

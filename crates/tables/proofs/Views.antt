@@ -1,11 +1,12 @@
 -- What the readers find is what the views say. Assumes nothing.
 use Prim.Native.Nat.{ℕ, zero, suc, _+_, _-_, _≤_, _<_}
 use mathlib.Core.Path.{_≡_, refl, sym, ap, _∙_}
-use mathlib.Core.List.{List, map}
+use mathlib.Core.List.{List, [], _∷_, map}
 use mathlib.Core.Option.{none, some}
 use native.Mathlib.Omega.{arith}
 use lib.ListN.{length, getD, take, drop, length-take, length-drop, length-map, List·getD-map}
-use lib.Seq.{length-take-le, getD-take, getD-drop}
+use lib.Seq.{length-take-le, take-take, drop-drop, getD-take, getD-drop}
+use Rattle.text.specs.Big.{value}
 use borrow.Author.Tests.{lt-ltb}
 use Rattle.span.specs.declared.Span.{Span}
 use Rattle.ast.specs.declared.ClassicalType.{ClassicalType}
@@ -18,7 +19,7 @@ use Rattle.context.specs.declared.GateSig.{GateSig as GateValue}
 use Rattle.context.specs.declared.FoundFunction.{FoundFunction}
 use Rattle.context.specs.declared.Symbol.{Symbol as SymbolValue}
 use Rattle.context.specs.Values.{kindOf, numberOf, symbolOf, foundOf, foundGateOf}
-use Rattle.context.specs.View.{numberAt, spanAt, typeOf, kinds, sizeBy, symbolBy, symbolAt, codePlace, symbolPlace, scopeOf, scopesOf, gatePlace, gatesOf, functionPlace, functionBy, functionsOf}
+use Rattle.context.specs.View.{numberAt, spanAt, span-from, typeOf, symbolSize, kinds, sizeBy, symbolBy, symbolAt, codePlace, symbolPlace, scopeOf, scopesOf, gatePlace, gatesOf, functionPlace, functionBy, functionsOf}
 use Rattle.tables.specs.Tables.{briefOf, paramsOf}
 
 some-suc : (n : ℕ) → (n ≡ 0 → ⊥) → n ≡ suc (n - 1)
@@ -38,6 +39,26 @@ symbol-some s level x v h k z p =
     let code = getD s (codePlace level x) 0 in
     let q : symbolAt s level x ≡ symbolBy s (symbolPlace level x) (suc (code - 1)) = ap (symbolBy s (symbolPlace level x)) (some-suc code h) in
     rw (k, z, p) (sym q)
+
+-- a number in a part of the bytes
+part-take : (k w n : ℕ) (l : List ℕ) → k + w ≤ n → take w (drop k (take n l)) ≡ take w (drop k l)
+part-take zero w n l h = take-take w n l (omega arith)
+part-take (suc k) w zero l h = absurd (omega arith)
+part-take (suc k) w (suc n) [] h = refl
+part-take (suc k) w (suc n) (x ∷ xs) h = part-take k w n xs (omega arith)
+
+part-number : (w k n at : ℕ) (s : List ℕ) → k + w ≤ n → numberAt w (take n (drop at s)) k ≡ numberAt w s (at + k)
+part-number w k n at s h = ap (value 0) (part-take k w n (drop at s) h ∙ ap (take w) (drop-drop k at s))
+
+-- the entry read as a part
+pub symbol-part : (s : List ℕ) (level x : ℕ) (v : SymbolValue) (e : List ℕ) → (getD s (codePlace level x) 0 ≡ 0 → ⊥) → kindOf (v .kind) ≡ getD kinds (getD s (codePlace level x) 0 - 1) Qubit
+    → numberOf (v .size) ≡ sizeBy (getD e 0 0) (numberAt 8 e 1) → v .«decl_span» ≡ spanAt e 9 → (n : ℕ) → e ≡ take n (drop (symbolPlace level x) s) → n ≡ symbolSize → foundOf (FoundSymbol.Some v) ≡ symbolAt s level x
+symbol-part s level x v e h k z p n q f =
+    let at = symbolPlace level x in
+    let b : getD e 0 0 ≡ getD s at 0 = rw q (getD-take n (drop at s) 0 0 (omega arith) ∙ getD-drop at s 0 0 ∙ ap (λ (j : ℕ). getD s j 0) (omega arith)) in
+    let c : (w j : ℕ) → j + w ≤ symbolSize → numberAt w e j ≡ numberAt w s (at + j) = λ w j l. rw q (part-number w j n at s (omega arith)) in
+    let m : at + 13 ≡ at + 9 + 4 = omega arith in
+    symbol-some s level x v h k (z ∙ rw (b, c 8 1 (omega arith))) (p ∙ span-from s (at + 9) (c 4 9 (omega arith)) (c 4 13 (omega arith) ∙ ap (numberAt 4 s) m))
 
 -- a symbol stands in its scope
 pub scope-at : (s : List ℕ) (level x : ℕ) → x < 256 → scopeOf s level x ≡ symbolAt s level x

@@ -1,8 +1,7 @@
 -- An `if`: its condition, its `then` body and its `else` make the walk over it. Assumes nothing.
 use Prim.Native.Nat.{ℕ, suc, _+_, _-_, _≤_, _<_}
 use mathlib.Core.Path.{_≡_, refl, sym, ap, subst, _∙_}
-use mathlib.Core.Logic.{inl, inr}
-use mathlib.Core.List.{List, []}
+use mathlib.Core.List.{List, [], _∷_}
 use native.Mathlib.Omega.{arith}
 use lib.ListN.{length, getD}
 use Rattle.ast.specs.Tree.{Text, Expr, Stmt, Stmts, noStmt, Else, noElse}
@@ -11,32 +10,34 @@ use Rattle.tree.specs.Ans.{ok, nextOf, IsOk}
 use Rattle.tree.specs.Stmts.{body, stmt, elseBody, held}
 use Rattle.tree.specs.Decode.{textsOf}
 use Rattle.sema.specs.Messages
-use Rattle.sema.specs.Symbols.{empty}
+use Rattle.sema.specs.Symbols.{Symbols, empty}
 use Rattle.sema.specs.Marks.{Key}
-use Rattle.sema.specs.KeyCount.{SetsStmt, SetsElse}
+use Rattle.sema.specs.Limits.{keyLimit}
+use Rattle.sema.specs.Keys.{keysStmt, keysStmts, keysElse}
 use Rattle.sema.specs.Exprs.{requireType}
 use Rattle.sema.specs.Stmts.{SemaContext, enter, analyzeStmt, analyzeStmts, analyzeElse}
 use Rattle.context.specs.declared.State.{State}
-use Rattle.context.specs.View.{spanAt, keysIn, scopesOf, functionsOf, contextOf}
+use Rattle.context.specs.View.{Placed, spanAt, keysIn, scopesOf, functionsOf, contextOf}
 use Rattle.accepted.specs.Cases.{blank}
-use Rattle.accepted.specs.Parts.{valueOr, value-is, given-ok}
+use Rattle.accepted.specs.Parts.{valueOr, given-is, given-ok}
 use Rattle.accepted.specs.Bodies.{stmt-left, body-forward}
 use Rattle.accepted.specs.Stmts.{branch-condition, branch-body, branch-else, branch-is, branch-inside}
 use Rattle.promises.specs.Emitted.{emitted-then, emitted-as}
-use Rattle.promises.specs.Walks.{Ready, StmtKeyed, Walked, StmtWalked, BodyWalked}
+use Rattle.sheet.specs.Table.{length-keys, AtLeast, more-long, keep-else}
+use Rattle.sheet.specs.Behind.{Blank, blank-more}
+use Rattle.promises.specs.Walks.{Walkable, Ready, Walked, StmtWalked, BodyWalked}
+use Rattle.promises.specs.Went.{stmtKeys, elseKeys, Went, StmtWent, BodyWent}
+use Rattle.promises.specs.WentLaws.{Grown, grown-as, grown-longer, body-as-grown, else-grown, walked-grown, blank-keys, walkable-grown, went-over, within}
 use Rattle.promises.specs.WalkLaws.{stmt-walked}
 use Rattle.bodies.specs.Opened.{ConditionOpened}
-use Rattle.walk.specs.Bodies.{ElseKeyed, walkElse}
+use Rattle.walk.specs.Bodies.{entryOf, walkElse, ElseWalked, ElseWent}
 use Rattle.walk.proofs.Enclosed.{opened-context, opened-below, ended-context, body-walked, else-same}
-use Rattle.walk.proofs.Held.{Holds}
+use Rattle.walk.proofs.Held.{Holds, held-went}
 use Rattle.walk.proofs.Further.{if-further}
 
-module _ (tree index : List ℕ) (keys left : ℕ) (st : State) (h : IsOk (stmt (textsOf tree) left tree (st .at))) (l : left ≤ 8) (b : getD tree (st .at) 0 ≡ 12) where
+module _ (tree : List ℕ) (left : ℕ) (st : State) (h : IsOk (stmt (textsOf tree) left tree (st .at))) (l : left ≤ 8) (b : getD tree (st .at) 0 ≡ 12) where
   abbrev t : List Text
   t = textsOf tree
-
-  abbrev ks : List Key
-  ks = keysIn index keys
 
   pub left-some : 0 < left
   left-some = stmt-left t left tree (st .at) h
@@ -67,64 +68,133 @@ module _ (tree index : List ℕ) (keys left : ℕ) (st : State) (h : IsOk (stmt 
   if-else : IsOk (elseBody (stmt t (left - 1)) tree elseAt)
   if-else = branch-else t left tree (st .at) h b _ refl _ refl
 
-  pub then-holds : Holds tree left (st .at) SetsStmt (stmt t left tree (st .at)) empty thenAt
-  then-holds = record { some = left-some; further = if-further tree left (st .at) h b; held = if-body; keyed = λ ks ss k j g. k .each _ _ if-is j (inl g) }
+  -- the keys of the `then` body alone
+  abbrev thenKeys : Symbols → List Key → List Key
+  thenKeys ss ks = keysStmts thenRest (empty ∷ ss) ks
 
-  module _ (s o : List ℕ) (i : State) (s′ o′ : List ℕ) (p : ConditionOpened Messages.ifCondition tree left st s o i s′ o′) where
-    module _ (w : State) (s″ o″ : List ℕ) (v : BodyWalked tree index keys (left - 1) i s′ o′ w s″ o″) where
-      walked-then : Walked tree t ks (suc (9 - left)) (analyzeStmts t thenRest) elseAt i s′ o′ w s″ o″
-      walked-then = body-walked tree index keys left left-some l _ i (p .at) if-body (λ x. x) (λ n. n) v
+  pub then-holds : Holds tree left (st .at) thenKeys empty thenAt
+  then-holds = record { some = left-some; further = if-further tree left (st .at) h b; held = if-body; keys = λ ss ks. refl }
+
+  if-keys : (ss : Symbols) (ks : List Key) → stmtKeys (stmt t left tree (st .at)) ss ks ≡ keysElse elseRest ss (thenKeys ss ks)
+  unfolding keysStmt
+  if-keys ss ks = given-is if-is ks (λ a. keysStmt a ss ks)
+
+  module _ (s o : List ℕ) (i : State) (s′ o′ : List ℕ) (p : ConditionOpened Messages.ifCondition tree left st s o i s′ o′) (q : i .keys ≡ st .keys) (w : State) (index index₁ s″ o″ : List ℕ) (v : BodyWent tree (left - 1) i index s′ o′ w index₁ s″ o″) where
+    -- of the `then` body
+    then-went : Went index index₁ (thenKeys (scopesOf s (9 - left)) (keysIn index (st .keys))) s s″ w (BodyWalked tree index₁ (w .keys) (left - 1) i s′ o′ w s″ o″)
+    then-went = held-went tree left l then-holds p q v w refl (λ m x. x) (λ m x. x)
+
+    -- the walk has stopped in it
+    pub then-over : w .keys ≡ 257 → {o‴ : List ℕ} → StmtWent tree left st index s o w index₁ s″ o‴
+    then-over e =
+        let ss = scopesOf s (9 - left) in
+        went-over then-went e _ (rw (if-keys ss (keysIn index (st .keys))) (keep-else (AtLeast (length (thenKeys ss (keysIn index (st .keys))))) (more-long _) elseRest ss _ (omega arith))) _
+
+    module _ (u : w .keys ≡ 257 → ⊥) where
+      few : w .keys ≤ keyLimit
+      few = within (v .added) u
+
+      walked-then : Walked tree t (keysIn index₁ (w .keys)) (suc (9 - left)) (analyzeStmts t thenRest) elseAt i s′ o′ w s″ o″
+      walked-then = body-walked tree index₁ (w .keys) left left-some l _ i (p .at) if-body (λ x. x) (λ n. n) (v .walked few)
 
       -- the scopes of the `if` are as they were
       then-scopes : scopesOf s″ (9 - left) ≡ scopesOf s (9 - left)
       then-scopes = walked-then .below (9 - left) (omega arith) ∙ opened-below p (9 - left) (omega arith)
 
-      module _ (e : State) (x : e .at ≡ w .at) (y : e .sink ≡ w .sink) (z : e .marks ≡ st .marks) where
-        else-at : e .at ≡ elseAt
-        else-at = x ∙ walked-then .at
+      else-at : w .at ≡ elseAt
+      else-at = walked-then .at
 
-        pub else-held : IsOk (elseBody (stmt t (left - 1)) tree (e .at))
-        else-held = rw else-at if-else
+      pub else-held : IsOk (elseBody (stmt t (left - 1)) tree (w .at))
+      else-held = rw else-at if-else
 
-        pub else-further : st .at < e .at
-        else-further = omega (arith, else-at, if-further tree left (st .at) h b, body-forward _ _ _ _ if-body)
+      pub else-further : st .at < w .at
+      else-further = omega (arith, else-at, if-further tree left (st .at) h b, body-forward _ _ _ _ if-body)
 
-        pub else-ready : Ready tree s st → Ready tree s″ e
-        else-ready r = record { room = omega (arith, v .same-length, p .becomes .same-length, r .room); few = v .few; placed = rw z (r .placed); fits = rw y (v .emitted .fits) }
+      pub else-ready : Ready tree s st → Ready tree s″ (entryOf w (st .marks))
+      else-ready r = record { room = omega (arith, v .scratch-length, p .becomes .same-length, r .room); few = walked-then .few; placed = r .placed; fits = walked-then .emitted .fits }
 
-        pub else-keyed : StmtKeyed ks (scopesOf s (9 - left)) (stmt t left tree (st .at)) → ElseKeyed ks (scopesOf s″ (9 - left)) (elseBody (stmt t (left - 1)) tree (e .at))
-        else-keyed k =
-            rw (then-scopes, else-at)
-            (record { each = λ f n g j c. k .each _ _ if-is j (inr (subst (λ (q : Else). SetsElse q (scopesOf s (9 - left)) j) (sym (value-is g noElse)) c)) })
+      pub then-placed : Placed tree (w .marks)
+      then-placed = walked-then .placed
 
-        module _ (f : State) (s‴ o‴ : List ℕ) (q : Walked tree t ks (9 - left) (walkElse t (contextOf tree ks s″ (suc (9 - left)) (w .marks)) (elseBody (stmt t (left - 1)) tree (e .at))) (nextOf (elseBody (stmt t (left - 1)) tree (e .at))) e s″ o″ f s‴ o‴) where
+      then-grown : Grown (keysIn index (st .keys)) (keysIn index₁ (w .keys))
+      then-grown = grown-as (sym (then-went .added .keys few)) (body-as-grown (empty ∷ scopesOf s (9 - left)) (keysIn index (st .keys)) thenRest)
+
+      pub else-walkable : Walkable tree index (st .keys) → Walkable tree index₁ (w .keys)
+      else-walkable x = walkable-grown x (body-as-grown (empty ∷ scopesOf s (9 - left)) (keysIn index (st .keys)) thenRest) (then-went .added) (v .index-length) few
+
+      pub else-behind : Blank (st .keys) (st .marks) → Blank (w .keys) (st .marks) × Blank (w .keys) (w .marks)
+      else-behind x = (blank-more (omega (arith, length-keys index 0 (st .keys), length-keys index₁ 0 (w .keys), grown-longer then-grown)) x, v .behind few)
+
+      module _ (f : State) (index₂ s‴ o‴ : List ℕ) (g : ElseWent tree left (st .marks) w index₁ s″ o″ f index₂ s‴ o‴) (x : Blank (st .keys) (st .marks)) where
+        else-keys : elseKeys (elseBody (stmt t (left - 1)) tree (w .at)) (scopesOf s″ (9 - left)) (keysIn index₁ (w .keys)) ≡ stmtKeys (stmt t left tree (st .at)) (scopesOf s (9 - left)) (keysIn index (st .keys))
+        else-keys =
+            rw (else-at, then-scopes, then-went .added .keys few)
+            (given-ok noElse _ (λ e. keysElse e (scopesOf s (9 - left)) (thenKeys (scopesOf s (9 - left)) (keysIn index (st .keys)))) (elseBody (stmt t (left - 1)) tree elseAt) if-else ∙ sym (if-keys (scopesOf s (9 - left)) (keysIn index (st .keys))))
+
+        -- the `if` was walked over, or the walk has stopped
+        else-went : (r : State) → r .keys ≡ f .keys → (f .keys ≤ keyLimit → StmtWalked tree index₂ (r .keys) left st s o r s‴ o‴) → (f .keys ≤ keyLimit → Blank (r .keys) (r .marks)) → StmtWent tree left st index s o r index₂ s‴ o‴
+        else-went r e y z =
+            let a = rw else-keys at (g .added) in
+            record {
+              added = rw e (record { counted = a .counted; keys = a .keys; texts = a .texts ∙ v .added .texts });
+              index-length = g .index-length ∙ v .index-length;
+              scratch-length = g .scratch-length ∙ then-went .scratch-length;
+              scratch-rest = g .scratch-rest ∙ then-went .scratch-rest;
+              walked = λ m. y (rw e at m);
+              behind = λ m. z (rw e at m);
+            }
+
+        pub else-over : f .keys ≡ 257 → StmtWent tree left st index s o f index₂ s‴ o‴
+        else-over e = else-went f refl (λ m. absurd (omega arith)) (λ m. absurd (omega arith))
+
+        module _ (u₂ : f .keys ≡ 257 → ⊥) where
+          few₂ : f .keys ≤ keyLimit
+          few₂ = within (g .added) u₂
+
+          abbrev ks : List Key
+          ks = keysIn index₂ (f .keys)
+
+          walked-else : ElseWalked tree ks left (st .marks) w s″ o″ f s‴ o‴
+          walked-else = g .walked few₂
+
           pub if-room : f .at + 8 ≤ length tree
-          if-room = let n = branch-inside t left tree (st .at) h b _ refl _ refl _ refl in rw (q .at, else-at) n
+          if-room = let n = branch-inside t left tree (st .at) h b _ refl _ refl _ refl in rw (walked-else .at, else-at) n
+
+          -- the `then` body, with the keys of the `else` as well
+          else-grown′ : Grown (keysIn index₁ (w .keys)) ks
+          else-grown′ = grown-as (sym (g .added .keys few₂)) (else-grown (scopesOf s″ (9 - left)) (keysIn index₁ (w .keys)) (elseBody (stmt t (left - 1)) tree (w .at)))
+
+          then-again : Walked tree t ks (suc (9 - left)) (analyzeStmts t thenRest) elseAt i s′ o′ w s″ o″
+          then-again = walked-grown else-grown′ (blank-keys index₁ (rw (p .marks) (else-behind x .0))) (blank-keys index₁ (v .behind few)) walked-then
 
           abbrev c : SemaContext
           c = contextOf tree ks s (9 - left) (st .marks)
 
           -- what the analysis makes of the `else`
-          else-walk : walkElse t (contextOf tree ks s″ (suc (9 - left)) (w .marks)) (elseBody (stmt t (left - 1)) tree (e .at)) (contextOf tree ks s″ (9 - left) (e .marks)) ≡ analyzeElse t elseRest c (analyzeStmts t thenRest (enter empty c) .0)
+          else-walk : walkElse t (contextOf tree ks s″ (suc (9 - left)) (w .marks)) (elseBody (stmt t (left - 1)) tree (w .at)) (contextOf tree ks s″ (9 - left) (st .marks)) ≡ analyzeElse t elseRest c (analyzeStmts t thenRest (enter empty c) .0)
           else-walk =
-              rw (else-at, z, given-ok noElse (contextOf tree ks s″ (9 - left) (st .marks), []) (λ g. analyzeElse t g (contextOf tree ks s″ (9 - left) (st .marks)) (contextOf tree ks s″ (suc (9 - left)) (w .marks))) (elseBody (stmt t (left - 1)) tree elseAt) if-else)
+              rw (else-at, given-ok noElse (contextOf tree ks s″ (9 - left) (st .marks), []) (λ g. analyzeElse t g (contextOf tree ks s″ (9 - left) (st .marks)) (contextOf tree ks s″ (suc (9 - left)) (w .marks))) (elseBody (stmt t (left - 1)) tree elseAt) if-else)
               (else-same t elseRest (contextOf tree ks s″ (9 - left) (st .marks)) c (contextOf tree ks s″ (suc (9 - left)) (w .marks)) then-scopes refl
-              ∙ ap (analyzeElse t elseRest c) (ended-context tree ks p (analyzeStmts t thenRest) walked-then))
+              ∙ ap (analyzeElse t elseRest c) (ended-context tree ks p (analyzeStmts t thenRest) then-again))
 
-          pub if-walked : (r : State) → r .at ≡ f .at + 8 → r .sink ≡ f .sink → r .marks ≡ f .marks → StmtWalked tree index keys left st s o r s‴ o‴
+          if-walked : (r : State) → r .at ≡ f .at + 8 → r .sink ≡ f .sink → r .marks ≡ f .marks → StmtWalked tree index₂ (f .keys) left st s o r s‴ o‴
           unfolding analyzeStmt
           if-walked r a d m =
+              let q = walked-else in
               let g = given-ok blank [] (λ e. requireType (scopesOf s (9 - left)) (functionsOf s) e ClassicalType.Bool Messages.ifCondition) (held t tree (st .at + 1)) (branch-condition t left tree (st .at) h b) in
-              let u = emitted-as (walked-then .emitted) (ap (λ x. analyzeStmts t thenRest x .1) (opened-context tree ks p)) in
-              let n = emitted-as (rw y at (q .emitted)) (ap (λ x. x .1) else-walk) in
-              stmt-walked tree index keys left st if-is
+              let u = emitted-as (then-again .emitted) (ap (λ x. analyzeStmts t thenRest x .1) (opened-context tree ks p)) in
+              let n = emitted-as (q .emitted) (ap (λ x. x .1) else-walk) in
+              stmt-walked tree index₂ (f .keys) left st if-is
               (record {
                 at = a ∙ ap (λ (k : ℕ). k + 8) (q .at ∙ ap (λ (k : ℕ). nextOf (elseBody (stmt t (left - 1)) tree k)) else-at);
                 goes = ap (λ k. contextOf tree ks s‴ (9 - left) k) m ∙ q .goes ∙ ap (λ x. x .0) else-walk;
                 emitted = rw d (emitted-then (emitted-as (p .emitted) g) (emitted-then u n));
                 below = λ k j. q .below k j ∙ walked-then .below k (omega arith) ∙ opened-below p k (omega arith);
-                same-length = q .same-length ∙ v .same-length ∙ p .becomes .same-length;
-                same-rest = q .same-rest ∙ v .same-rest ∙ p .becomes .same-rest;
+                same-length = q .same-length ∙ walked-then .same-length ∙ p .becomes .same-length;
+                same-rest = q .same-rest ∙ walked-then .same-rest ∙ p .becomes .same-rest;
                 few = q .few;
                 placed = rw m (q .placed);
               })
+
+          pub if-went : (r : State) → r .at ≡ f .at + 8 → r .sink ≡ f .sink → r .keys ≡ f .keys → r .marks ≡ f .marks → StmtWent tree left st index s o r index₂ s‴ o‴
+          if-went r a d e m = else-went r e (λ n. subst (λ (k : ℕ). StmtWalked tree index₂ k left st s o r s‴ o‴) (sym e) (if-walked r a d m)) (λ n. rw (e, m) (g .behind n))

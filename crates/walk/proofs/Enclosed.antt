@@ -1,6 +1,6 @@
 -- A statement with a body: what is before the body, and the body, make the walk over the statement. Assumes nothing.
 use Prim.Native.Nat.{ℕ, suc, _-_, _≤_, _<_}
-use mathlib.Core.Path.{_≡_, sym, ap, subst, _∙_}
+use mathlib.Core.Path.{_≡_, refl, sym, ap, subst, _∙_}
 use mathlib.Core.List.{List, _∷_, _++_}
 use native.Mathlib.Omega.{arith}
 use Rattle.ast.specs.Tree.{Text, noStmt, Else, noElse, someElse}
@@ -11,24 +11,28 @@ use Rattle.sema.specs.Messages.{Diagnostic}
 use Rattle.sema.specs.Symbols.{Scope, Table, GateSig}
 use Rattle.sema.specs.Marks.{Key, Marks}
 use Rattle.sema.specs.Stmts.{SemaContext, leave, analyzeStmts, analyzeElse}
+use Rattle.context.specs.declared.After.{After}
 use Rattle.context.specs.declared.State.{State}
 use Rattle.context.specs.View.{Placed, keysIn, scopesOf, functionsOf, marksOf, contextOf}
 use Rattle.tables.specs.Laws.{few-after}
 use Rattle.accepted.specs.Parts.{valueOr, given-ok}
 use Rattle.scopes.specs.Laws.{entered-below}
 use Rattle.promises.specs.Emitted.{emitted-then, emitted-as}
-use Rattle.promises.specs.Walks.{Ready, Walk, Walked, walkBody}
+use Rattle.promises.specs.Walks.{stateOf, Ready, Walk, Walked, walkBody}
 use Rattle.promises.specs.WalkLaws.{context-is, walked-as}
 use Rattle.bodies.specs.Opened.{Opened}
+use Rattle.walk.specs.Bodies.{movedTo}
 
 pub level : (left : ℕ) → 0 < left → left ≤ 8 → 9 - (left - 1) ≡ suc (9 - left)
 level left a b = omega arith
 
+-- the body opened, whatever the keys, and the state moved there
+pub opened-moved : {t : List Text} {depth : ℕ} {scope : Scope} {gates : Table GateSig} {ds : List Diagnostic} {place : ℕ} (st : State) (a : After) {s o s′ o′ : List ℕ} → Opened t depth scope gates ds place (stateOf (st .at) (st .sink) (st .marks)) s o (stateOf (a .next) (a .sink) (st .marks)) s′ o′
+    → (r : State) → r ≡ movedTo st a → Opened t depth scope gates ds place st s o r s′ o′
+opened-moved st a p r e = rw e (record { at = p .at; marks = refl; emitted = p .emitted; becomes = p .becomes })
+
 -- the body opened
 module _ {t : List Text} {depth : ℕ} {scope : Scope} {gates : Table GateSig} {ds : List Diagnostic} {place : ℕ} {st : State} {s o : List ℕ} {i : State} {s′ o′ : List ℕ} (p : Opened t depth scope gates ds place st s o i s′ o′) where
-  pub opened-as : (r : State) → r ≡ i → Opened t depth scope gates ds place st s o r s′ o′
-  opened-as r e = subst (λ (x : State). Opened t depth scope gates ds place st s o x s′ o′) (sym e) p
-
   pub opened-below : (d : ℕ) → d ≤ depth → scopesOf s′ d ≡ scopesOf s d
   opened-below = entered-below (p .becomes)
 

@@ -1,5 +1,5 @@
 pub mod Plain
-pub mod Keyed
+pub mod Steps
 pub mod Loop
 pub mod Enclosed
 pub mod Further

@@ -3,37 +3,50 @@ use Prim.Native.Nat.{ℕ, _+_, _-_, _≤_, _<_}
 use mathlib.Core.Path.{_≡_, refl, sym, ap, _∙_}
 use mathlib.Core.List.{List, [], _++_}
 use native.Mathlib.Omega.{arith}
-use lib.ListN.{length, drop}
+use lib.ListN.{length, take, drop}
 use Rattle.ast.specs.Tree.{Text, Stmt, Stmts, noStmt, moreStmt}
-use Rattle.tree.specs.Ans.{Ans, ok, nextOf, IsOk}
+use Rattle.tree.specs.Ans.{ok, nextOf, IsOk}
 use Rattle.tree.specs.Read.{repeat}
 use Rattle.tree.specs.Stmts.{body, stmt}
 use Rattle.tree.specs.Decode.{textsOf}
-use Rattle.sema.specs.Marks.{Key}
+use Rattle.sema.specs.Symbols.{after}
+use Rattle.sema.specs.Keys.{keysStmt, keysStmts}
 use Rattle.sema.specs.Stmts.{SemaContext, analyzeStmt, analyzeStmts}
 use Rattle.context.specs.declared.State.{State}
 use Rattle.context.specs.Sink.{writtenOf, emit}
-use Rattle.context.specs.View.{numberAt, keysIn, scopesOf, contextOf}
+use Rattle.context.specs.View.{keyBase, numberAt, keysIn, scopesOf, contextOf}
 use Rattle.tables.specs.Tables.{tablesEnd}
 use Rattle.lines.specs.EmitLaws.{emit-append, emit-none}
 use Rattle.accepted.specs.Cases.{blankStmt}
-use Rattle.accepted.specs.Parts.{valueOr, given-is, given-ok, next-is}
+use Rattle.accepted.specs.Parts.{valueOr, value-is, given-is, given-ok, next-is}
 use Rattle.accepted.specs.Fields.{repeat-none}
 use Rattle.accepted.specs.Bodies.{stmt-forward, body-is, body-held, stmts-first, stmts-rest, stmts-is}
-use Rattle.promises.specs.Walks.{Ready, StmtKeyed, BodyKeyed, walkStmt, walkBody, StmtWalked, BodyWalked}
+use Rattle.sheet.specs.Table.{length-keys, AtLeast, more-long, keep-stmts}
+use Rattle.sheet.specs.Behind.{Blank, blank-more}
+use Rattle.promises.specs.Walks.{Walkable, Ready, walkStmt, walkBody}
+use Rattle.promises.specs.Went.{stmtKeys, bodyKeys, StmtWent, BodyWent}
+use Rattle.promises.specs.WentLaws.{within, grown-as, grown-longer, stmt-grown, marks-grown, blank-keys, walkable-grown, went-over}
 use Rattle.sema.specs.LawsOnly.{symbols-after}
-use Rattle.walk.proofs.Keyed.{first-keyed, rest-keyed}
 
--- n statements remain from r on; what the walk makes of them is what it makes of the whole from st on
-pub record Going (tree : List ℕ) (ks : List Key) (depth left : ℕ) (whole : Ans Stmts) (st : State) (s o : List ℕ) (n : ℕ) (r : State) (s′ o′ : List ℕ) : Type 0 where
+-- n statements of the body at a place remain from r on, with the keys so far in the index i; what the walk makes of them is what it makes of
+-- the whole from st on, and so of their keys
+pub record Going (tree : List ℕ) (left at : ℕ) (st : State) (i₀ s o : List ℕ) (n : ℕ) (r : State) (i s′ o′ : List ℕ) : Type 0 where
   pub past : st .at ≤ r .at
   pub rest : IsOk (repeat noStmt moreStmt (stmt (textsOf tree) left) n tree (r .at))
-  pub ends : nextOf whole ≡ nextOf (repeat noStmt moreStmt (stmt (textsOf tree) left) n tree (r .at))
-  pub walks : walkBody (textsOf tree) (repeat noStmt moreStmt (stmt (textsOf tree) left) n tree (r .at)) (contextOf tree ks s′ depth (r .marks)) .0 ≡ walkBody (textsOf tree) whole (contextOf tree ks s depth (st .marks)) .0
-  pub says : emit (textsOf tree) (walkBody (textsOf tree) (repeat noStmt moreStmt (stmt (textsOf tree) left) n tree (r .at)) (contextOf tree ks s′ depth (r .marks)) .1) (writtenOf (r .sink) o′) ≡ emit (textsOf tree) (walkBody (textsOf tree) whole (contextOf tree ks s depth (st .marks)) .1) (writtenOf (st .sink) o)
-  pub keyed : BodyKeyed ks (scopesOf s′ depth) (repeat noStmt moreStmt (stmt (textsOf tree) left) n tree (r .at))
+  pub ends : nextOf (body (stmt (textsOf tree) left) tree at) ≡ nextOf (repeat noStmt moreStmt (stmt (textsOf tree) left) n tree (r .at))
+  pub walks : walkBody (textsOf tree) (repeat noStmt moreStmt (stmt (textsOf tree) left) n tree (r .at)) (contextOf tree (keysIn i (r .keys)) s′ (9 - left) (r .marks)) .0
+      ≡ walkBody (textsOf tree) (body (stmt (textsOf tree) left) tree at) (contextOf tree (keysIn i (r .keys)) s (9 - left) (st .marks)) .0
+  pub says : emit (textsOf tree) (walkBody (textsOf tree) (repeat noStmt moreStmt (stmt (textsOf tree) left) n tree (r .at)) (contextOf tree (keysIn i (r .keys)) s′ (9 - left) (r .marks)) .1) (writtenOf (r .sink) o′)
+      ≡ emit (textsOf tree) (walkBody (textsOf tree) (body (stmt (textsOf tree) left) tree at) (contextOf tree (keysIn i (r .keys)) s (9 - left) (st .marks)) .1) (writtenOf (st .sink) o)
+  pub keys : bodyKeys (body (stmt (textsOf tree) left) tree at) (scopesOf s (9 - left)) (keysIn i₀ (st .keys))
+      ≡ keysStmts (valueOr noStmt (repeat noStmt moreStmt (stmt (textsOf tree) left) n tree (r .at))) (scopesOf s′ (9 - left)) (keysIn i (r .keys))
+  pub walkable : Walkable tree i (r .keys)
+  pub texts : take keyBase i ≡ take keyBase i₀
+  pub index-length : length i ≡ length i₀
+  pub behind : Blank (r .keys) (r .marks)
+  pub entry-behind : Blank (r .keys) (st .marks)
   pub ready : Ready tree s′ r
-  pub below : (d : ℕ) → d < depth → scopesOf s′ d ≡ scopesOf s d
+  pub below : (d : ℕ) → d < 9 - left → scopesOf s′ d ≡ scopesOf s d
   pub same-length : length s′ ≡ length s
   pub same-rest : drop tablesEnd s′ ≡ drop tablesEnd s
   pub same-out : length o′ ≡ length o
@@ -42,10 +55,9 @@ pub record Going (tree : List ℕ) (ks : List Key) (depth left : ℕ) (whole : A
 pub ready-as : {tree s : List ℕ} {st r : State} → Ready tree s st → r .sink ≡ st .sink → r .marks ≡ st .marks → Ready tree s r
 ready-as h e f = record { room = h .room; few = h .few; placed = rw f (h .placed); fits = rw e (h .fits) }
 
--- the same under other names
-pub going-as : {tree : List ℕ} {ks : List Key} {depth left : ℕ} {whole : Ans Stmts} {st : State} {s o : List ℕ} {n : ℕ} {r r′ : State} {s′ o′ s″ o″ : List ℕ} → Going tree ks depth left whole st s o n r s′ o′ → s″ ≡ s′ → o″ ≡ o′ → r′ ≡ r
-    → Going tree ks depth left whole st s o n r′ s″ o″
-going-as g e f h = rw (e, f, h) g
+-- one statement, under other names
+pub stepped-as : {tree : List ℕ} (left : ℕ) {st : State} {i s o : List ℕ} {r r′ : State} {i′ s′ o′ i″ s″ o″ : List ℕ} → StmtWent tree left st i s o r i′ s′ o′ → length o′ ≡ length o → i″ ≡ i′ → s″ ≡ s′ → o″ ≡ o′ → r′ ≡ r → StmtWent tree left st i s o r′ i″ s″ o″ × (length o″ ≡ length o)
+stepped-as left v z a b c d = rw (a, b, c, d) (v, z)
 
 -- one statement more
 module _ (tree : List ℕ) (left n k : ℕ) (h : IsOk (repeat noStmt moreStmt (stmt (textsOf tree) left) n tree k)) (l : 0 < n) (m : ℕ) (e : m ≡ nextOf (stmt (textsOf tree) left tree k)) where
@@ -71,10 +83,10 @@ module _ (tree : List ℕ) (left n k : ℕ) (h : IsOk (repeat noStmt moreStmt (s
   unfolding analyzeStmts
   whole-walk c = ap (λ w. w c) (given-is more-is _ (analyzeStmts t))
 
-module _ (tree index : List ℕ) (keys left at : ℕ) (r₀ : State) (s o : List ℕ) where
-  pub going-start : (n : ℕ) → IsOk (body (stmt (textsOf tree) left) tree at) → n ≡ numberAt 2 tree at → r₀ .at ≡ at + 2 → Ready tree s r₀ → BodyKeyed (keysIn index keys) (scopesOf s (9 - left)) (body (stmt (textsOf tree) left) tree at)
-      → Going tree (keysIn index keys) (9 - left) left (body (stmt (textsOf tree) left) tree at) r₀ s o n r₀ s o
-  going-start n h e a d k =
+module _ (tree : List ℕ) (left at : ℕ) (r₀ : State) (i₀ s o : List ℕ) where
+  pub going-start : (n : ℕ) → IsOk (body (stmt (textsOf tree) left) tree at) → n ≡ numberAt 2 tree at → r₀ .at ≡ at + 2 → Walkable tree i₀ (r₀ .keys) → Ready tree s r₀ → Blank (r₀ .keys) (r₀ .marks)
+      → Going tree left at r₀ i₀ s o n r₀ i₀ s o
+  going-start n h e a w d b =
       let g = body-is (stmt (textsOf tree) left) tree at h in
       record {
         past = omega arith;
@@ -82,7 +94,12 @@ module _ (tree index : List ℕ) (keys left at : ℕ) (r₀ : State) (s o : List
         ends = rw (e, a) (ap nextOf g);
         walks = rw (e, a, g);
         says = rw (e, a, g);
-        keyed = rw (e, a) (rw g at k);
+        keys = given-ok noStmt _ (λ x. keysStmts x (scopesOf s (9 - left)) (keysIn i₀ (r₀ .keys))) (body (stmt (textsOf tree) left) tree at) h ∙ rw (e, a, g);
+        walkable = w;
+        texts = refl;
+        index-length = refl;
+        behind = b;
+        entry-behind = b;
         ready = d;
         below = λ d l. refl;
         same-length = refl;
@@ -90,62 +107,109 @@ module _ (tree index : List ℕ) (keys left at : ℕ) (r₀ : State) (s o : List
         same-out = refl;
       }
 
-  module _ (n : ℕ) (r : State) (s′ o′ : List ℕ) (g : Going tree (keysIn index keys) (9 - left) left (body (stmt (textsOf tree) left) tree at) r₀ s o n r s′ o′) where
+  module _ (n : ℕ) (r : State) (i s′ o′ : List ℕ) (g : Going tree left at r₀ i₀ s o n r i s′ o′) where
     module _ (l : 0 < n) where
-      -- what the first of the remaining statements asks
+      -- the first of the remaining statements
       pub going-stmt : IsOk (stmt (textsOf tree) left tree (r .at))
       going-stmt = stmts-first (textsOf tree) left tree n (r .at) (g .rest) l
 
-      pub going-keyed : StmtKeyed (keysIn index keys) (scopesOf s′ (9 - left)) (stmt (textsOf tree) left tree (r .at))
-      going-keyed = first-keyed (g .keyed) (more-is tree left n (r .at) (g .rest) l _ refl) (stmt (textsOf tree) left tree (r .at)) refl
+      module _ (r″ : State) (i″ s″ o″ : List ℕ) (v : StmtWent tree left r i s′ o′ r″ i″ s″ o″) where
+        abbrev one : Stmt
+        one = valueOr blankStmt (stmt (textsOf tree) left tree (r .at))
 
-      pub going-more : (r″ : State) (s″ o″ : List ℕ) → StmtWalked tree index keys left r s′ o′ r″ s″ o″ → length o″ ≡ length o′ → Going tree (keysIn index keys) (9 - left) left (body (stmt (textsOf tree) left) tree at) r₀ s o (n - 1) r″ s″ o″
-      going-more r″ s″ o″ w z =
-          let t = textsOf tree in
-          let c = contextOf tree (keysIn index keys) s′ (9 - left) (r .marks) in
-          let i = more-is tree left n (r .at) (g .rest) l (r″ .at) (w .at) in
-          let f = first-walk tree left n (r .at) (g .rest) l (r″ .at) (w .at) c in
-          let v = whole-walk tree left n (r .at) (g .rest) l (r″ .at) (w .at) c in
-          let q = rest-walk tree left n (r .at) (g .rest) l (r″ .at) (w .at) in
-          let S″ : Stmt = valueOr blankStmt (stmt t left tree (r .at)) in
-          let R″ : Stmts = valueOr noStmt (repeat noStmt moreStmt (stmt t left) (n - 1) tree (r″ .at)) in
-          let c″ : contextOf tree (keysIn index keys) s″ (9 - left) (r″ .marks) ≡ analyzeStmt t S″ c .0 = w .goes ∙ ap (λ p. p .0) f in
-          let d : walkBody t (repeat noStmt moreStmt (stmt t left) (n - 1) tree (r″ .at)) (contextOf tree (keysIn index keys) s″ (9 - left) (r″ .marks)) .1 ≡ analyzeStmts t R″ (analyzeStmt t S″ c .0) .1 = ap (λ p. p .1) (q _) ∙ ap (λ (x : SemaContext). analyzeStmts t R″ x .1) c″ in
-          record {
-            past = omega (arith, g .past, w .at, stmt-forward t left tree (r .at) going-stmt);
-            rest = stmts-rest t left tree n (r .at) (g .rest) l (r″ .at) (w .at);
-            ends = g .ends ∙ next-is i;
-            walks = ap (λ p. p .0) (q _) ∙ ap (λ (x : SemaContext). analyzeStmts t R″ x .0) c″ ∙ sym (ap (λ p. p .0) v) ∙ g .walks;
-            says =
-                ap (λ x. emit t x (writtenOf (r″ .sink) o″)) d
-                ∙ ap (emit t (analyzeStmts t R″ (analyzeStmt t S″ c .0) .1)) (w .emitted .says ∙ ap (λ x. emit t x (writtenOf (r .sink) o′)) (ap (λ p. p .1) f))
-                ∙ sym (emit-append t (analyzeStmt t S″ c .1) (analyzeStmts t R″ (analyzeStmt t S″ c .0) .1) (writtenOf (r .sink) o′))
-                ∙ ap (λ x. emit t x (writtenOf (r .sink) o′)) (sym (ap (λ p. p .1) v))
-                ∙ g .says;
-            keyed = rest-keyed (g .keyed) i (repeat noStmt moreStmt (stmt t left) (n - 1) tree (r″ .at)) refl (scopesOf s″ (9 - left)) (ap (λ (x : SemaContext). x .symbols) c″ ∙ symbols-after t _ c);
-            ready = record { room = omega (arith, w .same-length, g .ready .room); few = w .few; placed = w .placed; fits = w .emitted .fits };
-            below = λ d k. w .below d k ∙ g .below d k;
-            same-length = w .same-length ∙ g .same-length;
-            same-rest = w .same-rest ∙ g .same-rest;
-            same-out = z ∙ g .same-out;
-          }
+        one-keys : stmtKeys (stmt (textsOf tree) left tree (r .at)) (scopesOf s′ (9 - left)) (keysIn i (r .keys)) ≡ keysStmt one (scopesOf s′ (9 - left)) (keysIn i (r .keys))
+        one-keys = given-ok blankStmt _ (λ a. keysStmt a (scopesOf s′ (9 - left)) (keysIn i (r .keys))) (stmt (textsOf tree) left tree (r .at)) going-stmt
+
+        rest-keys : (m : ℕ) → m ≡ nextOf (stmt (textsOf tree) left tree (r .at)) → bodyKeys (body (stmt (textsOf tree) left) tree at) (scopesOf s (9 - left)) (keysIn i₀ (r₀ .keys))
+            ≡ keysStmts (valueOr noStmt (repeat noStmt moreStmt (stmt (textsOf tree) left) (n - 1) tree m)) (after (scopesOf s′ (9 - left)) one) (keysStmt one (scopesOf s′ (9 - left)) (keysIn i (r .keys)))
+        unfolding keysStmts
+        rest-keys m e = g .keys ∙ ap (λ b. keysStmts b (scopesOf s′ (9 - left)) (keysIn i (r .keys))) (value-is (more-is tree left n (r .at) (g .rest) l m e) noStmt)
+
+        -- too many keys
+        pub going-over : r″ .keys ≡ 257 → (st : State) → st .at ≡ at → r₀ .keys ≡ st .keys → BodyWent tree left st i₀ s o r″ i″ s″ o″
+        going-over e st x y =
+            let ls = stmtKeys (stmt (textsOf tree) left tree (r .at)) (scopesOf s′ (9 - left)) (keysIn i (r .keys)) in
+            let f : length ls ≤ length (bodyKeys (body (stmt (textsOf tree) left) tree at) (scopesOf s (9 - left)) (keysIn i₀ (r₀ .keys))) =
+            rw (rest-keys _ refl, one-keys) (keep-stmts (AtLeast (length (keysStmt one (scopesOf s′ (9 - left)) (keysIn i (r .keys))))) (more-long _) _ _ _ (omega arith)) in
+            let q = went-over v e _ f Unit in
+            rw (x, ← y)
+            (record {
+              added = record { counted = q .added .counted; keys = q .added .keys; texts = v .added .texts ∙ g .texts };
+              index-length = v .index-length ∙ g .index-length;
+              scratch-length = v .scratch-length ∙ g .same-length;
+              scratch-rest = v .scratch-rest ∙ g .same-rest;
+              walked = λ m. absurd (omega arith);
+              behind = λ m. absurd (omega arith);
+            })
+
+        pub going-more : (r″ .keys ≡ 257 → ⊥) → length o″ ≡ length o′ → Going tree left at r₀ i₀ s o (n - 1) r″ i″ s″ o″
+        going-more u z =
+            let t = textsOf tree in
+            let few = within (v .added) u in
+            let w = v .walked few in
+            let G = grown-as (sym (v .added .keys few)) (stmt-grown (scopesOf s′ (9 - left)) (keysIn i (r .keys)) (stmt t left tree (r .at))) in
+            let mr = marks-grown G tree (r .marks) (blank-keys i (g .behind)) in
+            let ms = marks-grown G tree (r₀ .marks) (blank-keys i (g .entry-behind)) in
+            let c = contextOf tree (keysIn i″ (r″ .keys)) s′ (9 - left) (r .marks) in
+            let j = more-is tree left n (r .at) (g .rest) l (r″ .at) (w .at) in
+            let f = first-walk tree left n (r .at) (g .rest) l (r″ .at) (w .at) c in
+            let x = whole-walk tree left n (r .at) (g .rest) l (r″ .at) (w .at) c in
+            let q = rest-walk tree left n (r .at) (g .rest) l (r″ .at) (w .at) in
+            let R″ : Stmts = valueOr noStmt (repeat noStmt moreStmt (stmt t left) (n - 1) tree (r″ .at)) in
+            let c″ : contextOf tree (keysIn i″ (r″ .keys)) s″ (9 - left) (r″ .marks) ≡ analyzeStmt t one c .0 = w .goes ∙ ap (λ p. p .0) f in
+            let d : walkBody t (repeat noStmt moreStmt (stmt t left) (n - 1) tree (r″ .at)) (contextOf tree (keysIn i″ (r″ .keys)) s″ (9 - left) (r″ .marks)) .1 ≡ analyzeStmts t R″ (analyzeStmt t one c .0) .1 = ap (λ p. p .1) (q _) ∙ ap (λ (y : SemaContext). analyzeStmts t R″ y .1) c″ in
+            let ss : scopesOf s″ (9 - left) ≡ after (scopesOf s′ (9 - left)) one = ap (λ (y : SemaContext). y .symbols) c″ ∙ symbols-after t _ c in
+            let more : r .keys ≤ r″ .keys = omega (arith, length-keys i 0 (r .keys), length-keys i″ 0 (r″ .keys), grown-longer G) in
+            record {
+              past = omega (arith, g .past, w .at, stmt-forward t left tree (r .at) going-stmt);
+              rest = stmts-rest t left tree n (r .at) (g .rest) l (r″ .at) (w .at);
+              ends = g .ends ∙ next-is j;
+              walks = ap (λ p. p .0) (q _) ∙ ap (λ (y : SemaContext). analyzeStmts t R″ y .0) c″ ∙ sym (ap (λ p. p .0) x) ∙ rw (mr, ms) (g .walks);
+              says =
+                  ap (λ y. emit t y (writtenOf (r″ .sink) o″)) d
+                  ∙ ap (emit t (analyzeStmts t R″ (analyzeStmt t one c .0) .1)) (w .emitted .says ∙ ap (λ y. emit t y (writtenOf (r .sink) o′)) (ap (λ p. p .1) f))
+                  ∙ sym (emit-append t (analyzeStmt t one c .1) (analyzeStmts t R″ (analyzeStmt t one c .0) .1) (writtenOf (r .sink) o′))
+                  ∙ ap (λ y. emit t y (writtenOf (r .sink) o′)) (sym (ap (λ p. p .1) x))
+                  ∙ rw (mr, ms) (g .says);
+              keys = rest-keys (r″ .at) (w .at) ∙ rw (ss, v .added .keys few ∙ one-keys);
+              walkable = walkable-grown (g .walkable) (stmt-grown (scopesOf s′ (9 - left)) (keysIn i (r .keys)) (stmt t left tree (r .at))) (v .added) (v .index-length) few;
+              texts = v .added .texts ∙ g .texts;
+              index-length = v .index-length ∙ g .index-length;
+              behind = v .behind few;
+              entry-behind = blank-more more (g .entry-behind);
+              ready = record { room = omega (arith, w .same-length, g .ready .room); few = w .few; placed = w .placed; fits = w .emitted .fits };
+              below = λ d k. w .below d k ∙ g .below d k;
+              same-length = w .same-length ∙ g .same-length;
+              same-rest = w .same-rest ∙ g .same-rest;
+              same-out = z ∙ g .same-out;
+            }
 
     -- none remains
-    pub going-end : n ≤ 0 → (st : State) → st .at ≡ at → r₀ .sink ≡ st .sink → r₀ .marks ≡ st .marks → BodyWalked tree index keys left st s o r s′ o′
-    unfolding analyzeStmts
-    going-end l st i j k =
+    pub going-end : n ≤ 0 → (st : State) → st .at ≡ at → r₀ .sink ≡ st .sink → r₀ .keys ≡ st .keys → r₀ .marks ≡ st .marks → BodyWent tree left st i₀ s o r i s′ o′
+    unfolding analyzeStmts keysStmts
+    going-end l st x y z k =
         let t = textsOf tree in
-        let c = contextOf tree (keysIn index keys) s′ (9 - left) (r .marks) in
+        let c = contextOf tree (keysIn i (r .keys)) s′ (9 - left) (r .marks) in
         let e = repeat-none tree (r .at) noStmt moreStmt (stmt t left) n l in
         let w : walkBody t (repeat noStmt moreStmt (stmt t left) n tree (r .at)) c ≡ (c, []) = ap (λ w. w c) (given-is e _ (analyzeStmts t)) in
-        rw (i, ← j, ← k)
+        let f : bodyKeys (body (stmt t left) tree at) (scopesOf s (9 - left)) (keysIn i₀ (r₀ .keys)) ≡ keysIn i (r .keys) = g .keys ∙ ap (λ b. keysStmts b (scopesOf s′ (9 - left)) (keysIn i (r .keys))) (value-is e noStmt) in
+        rw (x, ← z)
         (record {
-          at = sym (g .ends ∙ next-is e);
-          goes = sym (ap (λ p. p .0) w) ∙ g .walks;
-          emitted = record { says = sym (emit-none t (writtenOf (r .sink) o′)) ∙ ap (λ x. emit t x (writtenOf (r .sink) o′)) (sym (ap (λ p. p .1) w)) ∙ g .says; fits = g .ready .fits };
-          below = g .below;
-          same-length = g .same-length;
-          same-rest = g .same-rest;
-          few = g .ready .few;
-          placed = g .ready .placed;
+          added = rw f (record { counted = omega (arith, length-keys i 0 (r .keys), g .walkable .indexed .few); keys = λ m. refl; texts = g .texts });
+          index-length = g .index-length;
+          scratch-length = g .same-length;
+          scratch-rest = g .same-rest;
+          walked = λ m.
+              rw (← y, ← k)
+              (record {
+                at = sym (g .ends ∙ next-is e);
+                goes = sym (ap (λ p. p .0) w) ∙ g .walks;
+                emitted = record { says = sym (emit-none t (writtenOf (r .sink) o′)) ∙ ap (λ a. emit t a (writtenOf (r .sink) o′)) (sym (ap (λ p. p .1) w)) ∙ g .says; fits = g .ready .fits };
+                below = g .below;
+                same-length = g .same-length;
+                same-rest = g .same-rest;
+                few = g .ready .few;
+                placed = g .ready .placed;
+              });
+          behind = λ m. g .behind;
         })

@@ -8,18 +8,31 @@ use context::Sink;
 use context::State;
 ghost use mathlib.Core.Path.{_≡_};
 ghost use mathlib.Core.Bool.{true, false};
-ghost use Prim.Native.Nat.{suc, _+_, _-_, _≤_, _<_};
+ghost use Prim.Native.Nat.{ℕ, _+_, _-_, _≤_, _<_};
 ghost use lib.ListN.{length, getD};
 ghost use Rattle.tree.specs.Ans.{IsOk, nextOf};
 ghost use Rattle.tree.specs.Stmts.{stmt, body, elseBody};
 ghost use Rattle.tree.specs.Decode.{textsOf};
-ghost use Rattle.context.specs.View.{Placed, keysIn, scopesOf, contextOf};
-ghost use Rattle.promises.specs.Walks.{stateOf, Walkable, Ready, StmtKeyed, BodyKeyed, Walked, StmtWalked, BodyWalked};
-ghost use Rattle.walk.specs.Bodies.{isPlain, LoopWalked, ElseKeyed, walkElse};
+ghost use Rattle.context.specs.View.{Placed, keysIn, scopesOf};
+ghost use Rattle.sheet.specs.Sheet.{KeysAdded};
+ghost use Rattle.sheet.specs.Behind.{Blank};
+ghost use Rattle.promises.specs.Walks.{stateOf, Walkable, Ready, StmtKeyed, StmtWalked};
+ghost use Rattle.promises.specs.Went.{stmtKeys, StmtWent, BodyWent};
+ghost use Rattle.walk.specs.Bodies.{movedTo, entryOf, isPlain, LoopWent, ElseWent};
 
-// The state past what was checked: the marks stay.
+// More keys than there may be.
+pub const OVER: usize = 257;
+
+// What a statement without statements in it leaves beside the marks: the place past it, the listing, how many keys there are.
+pub struct Step {
+    pub next: usize,
+    pub sink: Sink,
+    pub keys: usize,
+}
+
+// The state past what was checked: the keys and the marks stay.
 fn moved(st: State, a: After) -> State
-    ensures { λ r. ⌜ r ≡ stateOf (a .next) (a .sink) (st .marks) ⌝ }
+    ensures { λ r. ⌜ r ≡ movedTo st a ⌝ }
 {
     let said = a.sink;
     let mut s = st;
@@ -30,41 +43,48 @@ fn moved(st: State, a: After) -> State
 
 fn gate_def(
     tree: &[u8],
-    index: &Index,
+    index: &mut Index,
     scratch: &mut [u8],
     out: &mut [u8],
-    keys: usize,
     left: usize,
     st: State,
 ) -> State
-    requires { ⌜ Walkable (now tree) (now index) keys × Ready (now tree) (now scratch) st × IsOk (stmt (textsOf (now tree)) left (now tree) (st .at)) × (left ≤ 8) × (getD (now tree) (st .at) 0 ≡ 6) ⌝ }
-    requires { ⌜ StmtKeyed (keysIn (now index) keys) (scopesOf (now scratch) (9 - left)) (stmt (textsOf (now tree)) left (now tree) (st .at)) ⌝ }
-    ensures { λ r. ⌜ StmtWalked (now (tree .entry)) (now (index .entry)) keys left st (now (scratch .entry)) (now (out .entry)) r (now (scratch .exit)) (now (out .exit)) ⌝ }
+    requires { ⌜ Walkable (now tree) (now index) (st .keys) × Ready (now tree) (now scratch) st × IsOk (stmt (textsOf (now tree)) left (now tree) (st .at)) × (left ≤ 8) × (getD (now tree) (st .at) 0 ≡ 6) ⌝ }
+    requires { ⌜ Blank (st .keys) (st .marks) ⌝ }
+    ensures { λ r. ⌜ StmtWent (now (tree .entry)) left st (now (index .entry)) (now (scratch .entry)) (now (out .entry)) r (now (index .exit)) (now (scratch .exit)) (now (out .exit)) ⌝ }
 {
     let a = bodies::open_gate(tree, index, scratch, out, left, st.at, st.sink);
     let s = moved(st, a);
-    let mut r = analyze_stmts(tree, index, scratch, out, keys, left - 1, s);
+    let mut r = analyze_stmts(tree, index, scratch, out, left - 1, s);
+    if r.keys == OVER {
+        return r;
+    }
     r.at = r.at + 8;
     r
 }
 
 fn branch(
     tree: &[u8],
-    index: &Index,
+    index: &mut Index,
     scratch: &mut [u8],
     out: &mut [u8],
-    keys: usize,
     left: usize,
     st: State,
 ) -> State
-    requires { ⌜ Walkable (now tree) (now index) keys × Ready (now tree) (now scratch) st × IsOk (stmt (textsOf (now tree)) left (now tree) (st .at)) × (left ≤ 8) × (getD (now tree) (st .at) 0 ≡ 12) ⌝ }
-    requires { ⌜ StmtKeyed (keysIn (now index) keys) (scopesOf (now scratch) (9 - left)) (stmt (textsOf (now tree)) left (now tree) (st .at)) ⌝ }
-    ensures { λ r. ⌜ StmtWalked (now (tree .entry)) (now (index .entry)) keys left st (now (scratch .entry)) (now (out .entry)) r (now (scratch .exit)) (now (out .exit)) ⌝ }
+    requires { ⌜ Walkable (now tree) (now index) (st .keys) × Ready (now tree) (now scratch) st × IsOk (stmt (textsOf (now tree)) left (now tree) (st .at)) × (left ≤ 8) × (getD (now tree) (st .at) 0 ≡ 12) ⌝ }
+    requires { ⌜ Blank (st .keys) (st .marks) ⌝ }
+    ensures { λ r. ⌜ StmtWent (now (tree .entry)) left st (now (index .entry)) (now (scratch .entry)) (now (out .entry)) r (now (index .exit)) (now (scratch .exit)) (now (out .exit)) ⌝ }
 {
     let a = bodies::open_if(tree, index, scratch, out, left, st.at, st.sink);
     let s = moved(st, a);
-    let t = analyze_stmts(tree, index, scratch, out, keys, left - 1, s);
-    let mut e = branch_else(tree, index, scratch, out, keys, left, &st.marks, t);
+    let t = analyze_stmts(tree, index, scratch, out, left - 1, s);
+    if t.keys == OVER {
+        return t;
+    }
+    let mut e = branch_else(tree, index, scratch, out, left, &st.marks, t);
+    if e.keys == OVER {
+        return e;
+    }
     e.at = e.at + 8;
     e
 }
@@ -72,17 +92,16 @@ fn branch(
 // The `else` of an `if`, from the entry marks; t is the state after the `then` body. Both exits are united.
 fn branch_else(
     tree: &[u8],
-    index: &Index,
+    index: &mut Index,
     scratch: &mut [u8],
     out: &mut [u8],
-    keys: usize,
     left: usize,
     entry: &[u16; 256],
     t: State,
 ) -> State
-    requires { ⌜ Walkable (now tree) (now index) keys × Ready (now tree) (now scratch) (stateOf (t .at) (t .sink) (now entry)) × Placed (now tree) (t .marks) × IsOk (elseBody (stmt (textsOf (now tree)) (left - 1)) (now tree) (t .at)) × (0 < left) × (left ≤ 8) ⌝ }
-    requires { ⌜ ElseKeyed (keysIn (now index) keys) (scopesOf (now scratch) (9 - left)) (elseBody (stmt (textsOf (now tree)) (left - 1)) (now tree) (t .at)) ⌝ }
-    ensures { λ r. ⌜ Walked (now (tree .entry)) (textsOf (now (tree .entry))) (keysIn (now (index .entry)) keys) (9 - left) (walkElse (textsOf (now (tree .entry))) (contextOf (now (tree .entry)) (keysIn (now (index .entry)) keys) (now (scratch .entry)) (suc (9 - left)) (t .marks)) (elseBody (stmt (textsOf (now (tree .entry))) (left - 1)) (now (tree .entry)) (t .at))) (nextOf (elseBody (stmt (textsOf (now (tree .entry))) (left - 1)) (now (tree .entry)) (t .at))) (stateOf (t .at) (t .sink) (now (entry .entry))) (now (scratch .entry)) (now (out .entry)) r (now (scratch .exit)) (now (out .exit)) ⌝ }
+    requires { ⌜ Walkable (now tree) (now index) (t .keys) × Ready (now tree) (now scratch) (entryOf t (now entry)) × Placed (now tree) (t .marks) × IsOk (elseBody (stmt (textsOf (now tree)) (left - 1)) (now tree) (t .at)) × (0 < left) × (left ≤ 8) ⌝ }
+    requires { ⌜ Blank (t .keys) (now entry) × Blank (t .keys) (t .marks) ⌝ }
+    ensures { λ r. ⌜ ElseWent (now (tree .entry)) left (now (entry .entry)) t (now (index .entry)) (now (scratch .entry)) (now (out .entry)) r (now (index .exit)) (now (scratch .exit)) (now (out .exit)) ⌝ }
 {
     let k = t.at;
     let mut then = t;
@@ -97,65 +116,69 @@ fn branch_else(
     let inner = State {
         at: k + 1,
         sink,
+        keys: t.keys,
         marks,
     };
-    let mut e = analyze_stmts(tree, index, scratch, out, keys, left - 1, inner);
+    let mut e = analyze_stmts(tree, index, scratch, out, left - 1, inner);
+    if e.keys == OVER {
+        return e;
+    }
     sheet::unite(&then.marks, &mut e.marks);
     e
 }
 
 fn for_loop(
     tree: &[u8],
-    index: &Index,
+    index: &mut Index,
     scratch: &mut [u8],
     out: &mut [u8],
-    keys: usize,
     left: usize,
     st: State,
 ) -> State
-    requires { ⌜ Walkable (now tree) (now index) keys × Ready (now tree) (now scratch) st × IsOk (stmt (textsOf (now tree)) left (now tree) (st .at)) × (left ≤ 8) × (getD (now tree) (st .at) 0 ≡ 13) ⌝ }
-    requires { ⌜ StmtKeyed (keysIn (now index) keys) (scopesOf (now scratch) (9 - left)) (stmt (textsOf (now tree)) left (now tree) (st .at)) ⌝ }
-    ensures { λ r. ⌜ StmtWalked (now (tree .entry)) (now (index .entry)) keys left st (now (scratch .entry)) (now (out .entry)) r (now (scratch .exit)) (now (out .exit)) ⌝ }
+    requires { ⌜ Walkable (now tree) (now index) (st .keys) × Ready (now tree) (now scratch) st × IsOk (stmt (textsOf (now tree)) left (now tree) (st .at)) × (left ≤ 8) × (getD (now tree) (st .at) 0 ≡ 13) ⌝ }
+    requires { ⌜ Blank (st .keys) (st .marks) ⌝ }
+    ensures { λ r. ⌜ StmtWent (now (tree .entry)) left st (now (index .entry)) (now (scratch .entry)) (now (out .entry)) r (now (index .exit)) (now (scratch .exit)) (now (out .exit)) ⌝ }
 {
     let a = bodies::open_for(tree, index, scratch, out, left, st.at, st.sink);
     let s = moved(st, a);
-    loop_body(tree, index, scratch, out, keys, left - 1, s)
+    loop_body(tree, index, scratch, out, left - 1, s)
 }
 
 fn while_loop(
     tree: &[u8],
-    index: &Index,
+    index: &mut Index,
     scratch: &mut [u8],
     out: &mut [u8],
-    keys: usize,
     left: usize,
     st: State,
 ) -> State
-    requires { ⌜ Walkable (now tree) (now index) keys × Ready (now tree) (now scratch) st × IsOk (stmt (textsOf (now tree)) left (now tree) (st .at)) × (left ≤ 8) × (getD (now tree) (st .at) 0 ≡ 14) ⌝ }
-    requires { ⌜ StmtKeyed (keysIn (now index) keys) (scopesOf (now scratch) (9 - left)) (stmt (textsOf (now tree)) left (now tree) (st .at)) ⌝ }
-    ensures { λ r. ⌜ StmtWalked (now (tree .entry)) (now (index .entry)) keys left st (now (scratch .entry)) (now (out .entry)) r (now (scratch .exit)) (now (out .exit)) ⌝ }
+    requires { ⌜ Walkable (now tree) (now index) (st .keys) × Ready (now tree) (now scratch) st × IsOk (stmt (textsOf (now tree)) left (now tree) (st .at)) × (left ≤ 8) × (getD (now tree) (st .at) 0 ≡ 14) ⌝ }
+    requires { ⌜ Blank (st .keys) (st .marks) ⌝ }
+    ensures { λ r. ⌜ StmtWent (now (tree .entry)) left st (now (index .entry)) (now (scratch .entry)) (now (out .entry)) r (now (index .exit)) (now (scratch .exit)) (now (out .exit)) ⌝ }
 {
     let a = bodies::open_while(tree, index, scratch, out, left, st.at, st.sink);
     let s = moved(st, a);
-    loop_body(tree, index, scratch, out, keys, left - 1, s)
+    loop_body(tree, index, scratch, out, left - 1, s)
 }
 
 // The body of a loop, and its span behind it. Entry and exit are united.
 fn loop_body(
     tree: &[u8],
-    index: &Index,
+    index: &mut Index,
     scratch: &mut [u8],
     out: &mut [u8],
-    keys: usize,
     left: usize,
     st: State,
 ) -> State
-    requires { ⌜ Walkable (now tree) (now index) keys × Ready (now tree) (now scratch) st × IsOk (body (stmt (textsOf (now tree)) left) (now tree) (st .at)) × (left ≤ 8) ⌝ }
-    requires { ⌜ BodyKeyed (keysIn (now index) keys) (scopesOf (now scratch) (9 - left)) (body (stmt (textsOf (now tree)) left) (now tree) (st .at)) ⌝ }
+    requires { ⌜ Walkable (now tree) (now index) (st .keys) × Ready (now tree) (now scratch) st × IsOk (body (stmt (textsOf (now tree)) left) (now tree) (st .at)) × (left ≤ 8) ⌝ }
+    requires { ⌜ Blank (st .keys) (st .marks) ⌝ }
     requires { ⌜ nextOf (body (stmt (textsOf (now tree)) left) (now tree) (st .at)) + 8 ≤ length (now tree) ⌝ }
-    ensures { λ r. ⌜ LoopWalked (now (tree .entry)) (now (index .entry)) keys left st (now (scratch .entry)) (now (out .entry)) r (now (scratch .exit)) (now (out .exit)) ⌝ }
+    ensures { λ r. ⌜ LoopWent (now (tree .entry)) left st (now (index .entry)) (now (scratch .entry)) (now (out .entry)) r (now (index .exit)) (now (scratch .exit)) (now (out .exit)) ⌝ }
 {
-    let mut r = analyze_stmts(tree, index, scratch, out, keys, left, st);
+    let mut r = analyze_stmts(tree, index, scratch, out, left, st);
+    if r.keys == OVER {
+        return r;
+    }
     sheet::unite(&st.marks, &mut r.marks);
     r.at = r.at + 8;
     r
@@ -185,7 +208,8 @@ fn plain_stmt(
 ) -> After
     requires { ⌜ Walkable (now tree) (now index) keys × Ready (now tree) (now scratch) (stateOf at sink (now marks)) × IsOk (stmt (textsOf (now tree)) left (now tree) at) × (left ≤ 8) × (isPlain (getD (now tree) at 0) ≡ true) ⌝ }
     requires { ⌜ StmtKeyed (keysIn (now index) keys) (scopesOf (now scratch) (9 - left)) (stmt (textsOf (now tree)) left (now tree) at) ⌝ }
-    ensures { λ r. ⌜ StmtWalked (now (tree .entry)) (now (index .entry)) keys left (stateOf at sink (now (marks .entry))) (now (scratch .entry)) (now (out .entry)) (stateOf (r .next) (r .sink) (now (marks .exit))) (now (scratch .exit)) (now (out .exit)) ⌝ }
+    ensures walked { λ r. ⌜ StmtWalked (now (tree .entry)) (now (index .entry)) keys left (stateOf at sink (now (marks .entry))) (now (scratch .entry)) (now (out .entry)) (stateOf (r .next) (r .sink) (now (marks .exit))) (now (scratch .exit)) (now (out .exit)) ⌝ }
+    ensures behind { λ _. ⌜ ((n : ℕ) → keys ≤ n → Blank n (now (marks .entry)) → Blank n (now (marks .exit))) ⌝ }
 {
     match tree[at] {
         0 => operations::include(tree, index, scratch, out, left, at, sink),
@@ -202,42 +226,92 @@ fn plain_stmt(
     }
 }
 
-// A statement with statements in it.
-fn body_stmt(
+// The keys in the index, with those of a measure statement; 257 is too many.
+fn keys_with(
     tree: &[u8],
-    index: &Index,
+    index: &mut Index,
+    scratch: &[u8],
+    keys: usize,
+    left: usize,
+    at: usize,
+) -> usize
+    requires { ⌜ Walkable (now tree) (now index) keys × (65536 ≤ length (now scratch)) × IsOk (stmt (textsOf (now tree)) left (now tree) at) × (left ≤ 8) × (isPlain (getD (now tree) at 0) ≡ true) ⌝ }
+    ensures added { λ r. ⌜ KeysAdded (now (index .entry)) (now (index .exit)) r (stmtKeys (stmt (textsOf (now (tree .entry))) left (now (tree .entry)) at) (scopesOf (now (scratch .entry)) (9 - left)) (keysIn (now (index .entry)) keys)) ⌝ }
+    ensures index { λ _. ⌜ length (now (index .exit)) ≡ length (now (index .entry)) ⌝ }
+{
+    if tree[at] == 8 {
+        return operations::add_keys(tree, index, scratch, keys, left, at);
+    }
+    keys
+}
+
+// A statement without statements in it: its keys first. Where they are too many, nothing more is done.
+fn keyed_stmt(
+    tree: &[u8],
+    index: &mut Index,
     scratch: &mut [u8],
     out: &mut [u8],
     keys: usize,
     left: usize,
+    marks: &mut [u16; 256],
+    at: usize,
+    sink: Sink,
+) -> Step
+    requires { ⌜ Walkable (now tree) (now index) keys × Ready (now tree) (now scratch) (stateOf at sink (now marks)) × IsOk (stmt (textsOf (now tree)) left (now tree) at) × (left ≤ 8) × (isPlain (getD (now tree) at 0) ≡ true) ⌝ }
+    requires { ⌜ Blank keys (now marks) ⌝ }
+    ensures { λ r. ⌜ StmtWent (now (tree .entry)) left (record { at = at; sink = sink; keys = keys; marks = now (marks .entry) }) (now (index .entry)) (now (scratch .entry)) (now (out .entry)) (record { at = r .next; sink = r .sink; keys = r .keys; marks = now (marks .exit) }) (now (index .exit)) (now (scratch .exit)) (now (out .exit)) ⌝ }
+{
+    let count = keys_with(tree, index, scratch, keys, left, at);
+    if count == OVER {
+        return Step {
+            next: at,
+            sink,
+            keys: count,
+        };
+    }
+    let a = plain_stmt(tree, index, scratch, out, count, left, marks, at, sink);
+    let said = a.sink;
+    Step {
+        next: a.next,
+        sink: said,
+        keys: count,
+    }
+}
+
+// A statement with statements in it.
+fn body_stmt(
+    tree: &[u8],
+    index: &mut Index,
+    scratch: &mut [u8],
+    out: &mut [u8],
+    left: usize,
     st: State,
 ) -> State
-    requires { ⌜ Walkable (now tree) (now index) keys × Ready (now tree) (now scratch) st × IsOk (stmt (textsOf (now tree)) left (now tree) (st .at)) × (left ≤ 8) × (isPlain (getD (now tree) (st .at) 0) ≡ false) ⌝ }
-    requires { ⌜ StmtKeyed (keysIn (now index) keys) (scopesOf (now scratch) (9 - left)) (stmt (textsOf (now tree)) left (now tree) (st .at)) ⌝ }
-    ensures { λ r. ⌜ StmtWalked (now (tree .entry)) (now (index .entry)) keys left st (now (scratch .entry)) (now (out .entry)) r (now (scratch .exit)) (now (out .exit)) ⌝ }
+    requires { ⌜ Walkable (now tree) (now index) (st .keys) × Ready (now tree) (now scratch) st × IsOk (stmt (textsOf (now tree)) left (now tree) (st .at)) × (left ≤ 8) × (isPlain (getD (now tree) (st .at) 0) ≡ false) ⌝ }
+    requires { ⌜ Blank (st .keys) (st .marks) ⌝ }
+    ensures { λ r. ⌜ StmtWent (now (tree .entry)) left st (now (index .entry)) (now (scratch .entry)) (now (out .entry)) r (now (index .exit)) (now (scratch .exit)) (now (out .exit)) ⌝ }
 {
     let at = st.at;
     match tree[at] {
-        6 => gate_def(tree, index, scratch, out, keys, left, st),
-        12 => branch(tree, index, scratch, out, keys, left, st),
-        13 => for_loop(tree, index, scratch, out, keys, left, st),
-        _ => while_loop(tree, index, scratch, out, keys, left, st),
+        6 => gate_def(tree, index, scratch, out, left, st),
+        12 => branch(tree, index, scratch, out, left, st),
+        13 => for_loop(tree, index, scratch, out, left, st),
+        _ => while_loop(tree, index, scratch, out, left, st),
     }
 }
 
 // A body: statements behind their two-byte count.
 pub fn analyze_stmts(
     tree: &[u8],
-    index: &Index,
+    index: &mut Index,
     scratch: &mut [u8],
     out: &mut [u8],
-    keys: usize,
     left: usize,
     st: State,
 ) -> State
-    requires { ⌜ Walkable (now tree) (now index) keys × Ready (now tree) (now scratch) st × IsOk (body (stmt (textsOf (now tree)) left) (now tree) (st .at)) × (left ≤ 8) ⌝ }
-    requires { ⌜ BodyKeyed (keysIn (now index) keys) (scopesOf (now scratch) (9 - left)) (body (stmt (textsOf (now tree)) left) (now tree) (st .at)) ⌝ }
-    ensures { λ r. ⌜ BodyWalked (now (tree .entry)) (now (index .entry)) keys left st (now (scratch .entry)) (now (out .entry)) r (now (scratch .exit)) (now (out .exit)) ⌝ }
+    requires { ⌜ Walkable (now tree) (now index) (st .keys) × Ready (now tree) (now scratch) st × IsOk (body (stmt (textsOf (now tree)) left) (now tree) (st .at)) × (left ≤ 8) ⌝ }
+    requires { ⌜ Blank (st .keys) (st .marks) ⌝ }
+    ensures { λ r. ⌜ BodyWent (now (tree .entry)) left st (now (index .entry)) (now (scratch .entry)) (now (out .entry)) r (now (index .exit)) (now (scratch .exit)) (now (out .exit)) ⌝ }
 {
     let at = st.at;
     let mut n = u16_at(tree, at);
@@ -247,12 +321,17 @@ pub fn analyze_stmts(
         let k = s.at;
         if is_plain(tree[k]) {
             let sink = s.sink;
-            let a = plain_stmt(tree, index, scratch, out, keys, left, &mut s.marks, k, sink);
+            let keys = s.keys;
+            let a = keyed_stmt(tree, index, scratch, out, keys, left, &mut s.marks, k, sink);
             let said = a.sink;
             s.at = a.next;
             s.sink = said;
+            s.keys = a.keys;
         } else {
-            s = body_stmt(tree, index, scratch, out, keys, left, s);
+            s = body_stmt(tree, index, scratch, out, left, s);
+        }
+        if s.keys == OVER {
+            return s;
         }
         n -= 1;
     }

@@ -1,9 +1,8 @@
 -- `checker::run` meets its contract. Assumes nothing.
 use native.Mathlib.Omega.{arith}
 use mathlib.Core.Path.{refl}
-use Rattle.checker.proofs.Programs.{program-body, program-keyed, ready-new}
+use Rattle.checker.proofs.Programs.{program-body, program-walkable, ready-new}
 use Rattle.checker.proofs.Runs.{ran}
-use Rattle.sheet.specs.Table.{length-keys}
 use borrow.Author.Needs.{needs}
 use Rattle.checker.proofs.run.Statement.{statement}
 use Rattle.checker.proofs.run.Tie as tie
@@ -14,7 +13,7 @@ run-spec =
     (λ c κs. search needs)  -- begin-requires
     (λ c. search needs)  -- cast-t14
     (λ c κs. search needs)  -- blank-requires
-    (λ c κs. ((c .before .before .before .before .before .before .before .before .before .before .pre .0, ready-new _ _ (c .before .before .before .before .before .begin .ensures) (c .before .before .before .before .before .before .before .before .before .before .pre .1) (c .before .before .blank .ensures .0 _) refl refl (c .before .before .before .before .before .before .before .before .before .before .pre .4), program-body _ (c .before .before .before .before .before .before .before .before .before .before .pre .2) _ (c .before .before .before .before .before .before .before .before .before .before .pre .3), omega arith), program-keyed _ (c .before .before .before .before .before .before .before .before .before .before .pre .2) _ (c .before .before .before .before .before .before .before .before .before .before .pre .3) _ (c .before .before .before .before .before .before .before .before .before .before .pre .5) (rw (length-keys _ 0 _) (c .before .before .before .before .before .before .before .before .before .before .pre .0 .indexed .few)) (c .before .before .before .before .before .begin .ensures)))  -- analyze-stmts-requires
+    (λ c κs. let p = c .before .before .before .before .before .before .before .before .before .before .before .pre in let b = c .before .before .before .blank .ensures in ((program-walkable _ _ (p .2) (p .0), ready-new _ _ (c .before .before .before .before .before .before .begin .ensures) (p .1) (b .0 _) refl refl (p .4), program-body _ (p .2) _ (p .3), omega arith), b .1 .1))  -- analyze-stmts-requires
     (λ c. search needs)  -- same-length
     (λ c. search needs)  -- same-length-2
-    (λ c. ran _ _ _ _ _ _ _ _ _ _ _ (c .before .before .before .before .before .before .before .before .before .before .before .before .before .before .before .before .pre .2) (c .before .before .before .before .before .before .before .before .before .before .before .before .before .before .before .before .pre .3) refl refl (c .before .before .before .before .before .before .before .before .blank .ensures .1 _) (c .before .before .before .before .before .before .before .before .before .before .before .begin .ensures) (c .before .before .before .before .before .analyze-stmts .ensures)))  -- returns
+    (λ c. let p = c .before .before .before .before .before .before .before .before .before .before .before .before .before .before .before .before .before .pre in ran _ _ _ _ _ _ _ _ _ _ _ (p .2) (p .3) refl refl refl (c .before .before .before .before .before .before .before .before .before .blank .ensures .1 .0 _) (p .0) (c .before .before .before .before .before .before .before .before .before .before .before .before .begin .ensures) (c .before .before .before .before .before .analyze-stmts .ensures)))  -- returns

@@ -14,7 +14,7 @@ write-listing-spec =
     (λ c κs. search needs)  -- write-staged-requires
     (λ c κs. search needs)  -- write-requires
     (λ c. search needs)  -- same-length
-    (λ c. let p = c .before .before .before .before .before .before .before .before .before .before .pre in (staged-written _ _ (p .1 .0) (p .1 .1 .few) _ (program-texts _ (p .0 .2) _ (p .0 .3)) _ _ _ (p .1 .2) (omega (arith, c .before .before .before .before .if1 .taken)) (c .before .before .write-staged .ensures), record { same-length = refl; same-rest = refl }))  -- returns
+    (λ c. let p = c .before .before .before .before .before .before .before .before .before .before .pre in (staged-written _ _ (p .1 .1) (p .1 .2 .few) _ (program-texts _ (p .0 .2) _ (p .0 .3)) _ _ _ (p .1 .3) (omega (arith, c .before .before .before .before .if1 .taken)) (c .before .before .write-staged .ensures), record { same-length = refl; same-rest = refl }))  -- returns
     (λ c. search needs)  -- same-length-2
     (λ c. search needs)  -- same-length-3
     (λ c. search needs))  -- returns-2

@@ -22,4 +22,4 @@ measure-spec =
     (λ c κs. let s = c .before .before .before .before .before .before .before .before .before .before .before .before in let p = s .pre .0 in let st = stateOf (s .args .at) (s .args .sink) [] in let q = c .before .before .before .before .before .before .before .before .operand-at in let n = operand-below _ _ _ (q .result .operand) (q .ensures) in let few = p .0 .texts .few in let i = stmt-in _ _ _ _ (p .2) in let small = p .0 .small in (p .1 .placed .whole, p .0 .indexed, p .1 .room, search needs, omega arith, measure-place _ _ _ (p .2) (p .4), omega arith, measure-covers _ _ st (p .2) (p .4) (q .result .operand) _ (q .ensures) _ _ (s .pre .1)))  -- mark-measured-requires
     (λ c. let s = c .before .before .before .before .before .before .before .before .before .before .before .before .before .before in let p = s .pre .0 in let q = c .before .before .before .before .before .before .before .before .before .before .operand-at in let i = measure-in _ _ (stateOf (s .args .at) (s .args .sink) []) (p .2) (p .4) (q .result .operand) _ (q .ensures) _ (c .before .before .before .before .before .before .check-measure .ensures .next) in omega arith)  -- add-t15
     (λ c. search needs)  -- same-length
-    (λ c. let s = c .before .before .before .before .before .before .before .before .before .before .before .before .before .before in let p = s .pre .0 in let q = c .before .before .before .before .before .before .before .before .before .before .operand-at in let m = c .before .mark-measured in measure-walked _ _ (stateOf (s .args .at) (s .args .sink) _) (p .2) (p .4) (q .result .operand) _ (q .ensures) _ _ (p .1) _ (c .before .before .before .before .before .before .check-measure .ensures) _ (m .ensures .1 _) (m .ensures .0 _)))  -- returns
+    (λ c. let s = c .before .before .before .before .before .before .before .before .before .before .before .before .before .before in let p = s .pre .0 in let q = c .before .before .before .before .before .before .before .before .before .before .operand-at in let m = c .before .mark-measured in (measure-walked _ _ (stateOf (s .args .at) (s .args .sink) _) (p .2) (p .4) (q .result .operand) _ (q .ensures) _ _ (p .1) _ (c .before .before .before .before .before .before .check-measure .ensures) _ (m .ensures .1 .0 _) (m .ensures .0 _), (λ n l h. m .ensures .1 .1 n l h))))  -- returns

@@ -21,4 +21,4 @@ reset-spec =
     (λ c κs. let s = c .before .before .before .before .before .before .before .before .before .before in (s .pre .1 .placed .whole, s .pre .0 .indexed))  -- clear-requires
     (λ c. let s = c .before .before .before .before .before .before .before .before .before .before .before .before in let i = reset-inside _ _ _ _ (s .pre .2) (s .pre .4) _ (sym (next-is (c .before .before .before .before .before .before .before .before .operand-at .ensures))) in omega arith)  -- add-t13
     (λ c. search needs)  -- same-length
-    (λ c. let s = c .before .before .before .before .before .before .before .before .before .before .before .before in let a = c .before .before .before .before .before .before .before .before .operand-at in reset-walked _ _ _ _ (stateOf (s .args .at) (s .args .sink) _) (s .pre .2) (s .pre .4) (a .result .operand) _ (a .ensures) (s .pre .1) (c .before .before .before .before .before .check-operand .ensures) _ (c .before .clear .ensures .1 _) (c .before .clear .ensures .0 _ (s .pre .1 .placed))))  -- returns
+    (λ c. let s = c .before .before .before .before .before .before .before .before .before .before .before .before in let a = c .before .before .before .before .before .before .before .before .operand-at in (reset-walked _ _ _ _ (stateOf (s .args .at) (s .args .sink) _) (s .pre .2) (s .pre .4) (a .result .operand) _ (a .ensures) (s .pre .1) (c .before .before .before .before .before .check-operand .ensures) _ (c .before .clear .ensures .1 .0 _) (c .before .clear .ensures .0 _ (s .pre .1 .placed)), (λ n l h. c .before .clear .ensures .1 .1 n l h))))  -- returns

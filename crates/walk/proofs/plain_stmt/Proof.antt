@@ -26,25 +26,25 @@ plain-stmt-spec =
     (p .0, p .1, p .2, p .3, last-case 11 _ (((((r .0 .0 .0 .0, plain-other _ (p .4)), r .0 .0 .0 .1), r .0 .0 .1), r .0 .1), r .1) (plain-below _ (p .4))))  -- delay-requires
     (λ c. search needs)  -- same-length
     (λ c. search needs)  -- same-length-2
-    (λ c. c .before .before .include .ensures _ _ (c .before .before .before .before .before .before .before .before .before .before .pre .0 .1 .placed))  -- returns
+    (λ c. (c .before .before .include .ensures _ _ (c .before .before .before .before .before .before .before .before .before .before .pre .0 .1 .placed), λ n l b. b))  -- returns
     (λ c. search needs)  -- same-length-3
     (λ c. search needs)  -- same-length-4
-    (λ c. c .before .before .before .before .qubit-decl .ensures _ _ (c .before .before .before .before .before .before .before .before .before .before .before .before .pre .0 .1 .placed))  -- returns-2
+    (λ c. (c .before .before .before .before .qubit-decl .ensures _ _ (c .before .before .before .before .before .before .before .before .before .before .before .before .pre .0 .1 .placed), λ n l b. b))  -- returns-2
     (λ c. search needs)  -- same-length-5
     (λ c. search needs)  -- same-length-6
-    (λ c. c .before .before .before .before .bit-decl .ensures _ _ (c .before .before .before .before .before .before .before .before .before .before .before .before .pre .0 .1 .placed))  -- returns-3
+    (λ c. (c .before .before .before .before .bit-decl .ensures _ _ (c .before .before .before .before .before .before .before .before .before .before .before .before .pre .0 .1 .placed), λ n l b. b))  -- returns-3
     (λ c. search needs)  -- same-length-7
     (λ c. search needs)  -- same-length-8
-    (λ c. c .before .before .before .before .classical-decl .ensures _ _ (c .before .before .before .before .before .before .before .before .before .before .before .before .pre .0 .1 .placed))  -- returns-4
+    (λ c. (c .before .before .before .before .classical-decl .ensures _ _ (c .before .before .before .before .before .before .before .before .before .before .before .before .pre .0 .1 .placed), λ n l b. b))  -- returns-4
     (λ c. search needs)  -- same-length-9
     (λ c. search needs)  -- same-length-10
-    (λ c. c .before .before .assignment .ensures _ _ (c .before .before .before .before .before .before .before .before .before .before .pre .0 .1 .placed))  -- returns-5
+    (λ c. (c .before .before .assignment .ensures _ _ (c .before .before .before .before .before .before .before .before .before .before .pre .0 .1 .placed), λ n l b. b))  -- returns-5
     (λ c. search needs)  -- same-length-11
     (λ c. search needs)  -- same-length-12
-    (λ c. search needs)  -- returns-6
+    (λ c. (search needs, λ n l b. b))  -- returns-6
     (λ c. search needs)  -- same-length-13
     (λ c. search needs)  -- same-length-14
-    (λ c. c .before .before .before .before .function-def .ensures _ _ (c .before .before .before .before .before .before .before .before .before .before .before .before .pre .0 .1 .placed))  -- returns-7
+    (λ c. (c .before .before .before .before .function-def .ensures _ _ (c .before .before .before .before .before .before .before .before .before .before .before .before .pre .0 .1 .placed), λ n l b. b))  -- returns-7
     (λ c. search needs)  -- same-length-15
     (λ c. search needs)  -- same-length-16
     (λ c. search needs)  -- returns-8
@@ -53,7 +53,7 @@ plain-stmt-spec =
     (λ c. search needs)  -- returns-9
     (λ c. search needs)  -- same-length-19
     (λ c. search needs)  -- same-length-20
-    (λ c. search needs)  -- returns-10
+    (λ c. (search needs, λ n l b. b))  -- returns-10
     (λ c. search needs)  -- same-length-21
     (λ c. search needs)  -- same-length-22
-    (λ c. search needs))  -- returns-11
+    (λ c. (search needs, λ n l b. b)))  -- returns-11

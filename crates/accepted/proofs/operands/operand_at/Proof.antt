@@ -6,8 +6,8 @@ use native.Mathlib.Omega.{arith}
 use Rattle.accepted.proofs.operands.operand_at.Statement.{statement}
 use Rattle.accepted.proofs.operands.operand_at.Tie as tie
 
-add-t11 : tie.Need-add-t11
-add-t11 c = let i = operand-inside _ _ _ (c .before .before .before .before .before .pre) _ (sym (next-is (c .before .before .number-at .ensures))) _ (sym (next-is (c .before .ends-at .ensures))) in omega arith
+add-t13 : tie.Need-add-t13
+add-t13 c = let i = operand-inside _ _ _ (c .before .before .before .before .before .pre) _ (sym (next-is (c .before .before .number-at .ensures))) _ (sym (next-is (c .before .ends-at .ensures))) in omega arith
 
 returns : tie.Need-returns
 returns c = operand-read _ _ _ (c .before .before .before .before .before .pre) _ (c .before .before .before .u16-at .ensures .0) (c .before .before .number-at .ensures) (c .before .ends-at .ensures) _ (c .span-at .ensures)
@@ -20,4 +20,4 @@ operand-at-spec =
     (λ c κs. search operand-index)  -- number-at-requires
     (λ c κs. operand-slice _ _ _ (c .before .before .before .pre) _ (sym (next-is (c .number-at .ensures))))  -- ends-at-requires
     (λ c κs. operand-inside _ _ _ (c .before .before .before .before .pre) _ (sym (next-is (c .before .number-at .ensures))) _ (sym (next-is (c .ends-at .ensures))))  -- span-at-requires
-    add-t11 returns)
+    add-t13 returns)

@@ -1,0 +1,48 @@
+-- What the walk promises of an index that grows: the keys of what was read are in it, numbered as they were met. Assumes nothing.
+use Prim.Native.Nat.{ℕ, _-_, _≤_}
+use mathlib.Core.Path.{_≡_}
+use mathlib.Core.List.{List}
+use lib.ListN.{length, drop}
+use Rattle.ast.specs.Tree.{Stmt, Stmts, Else}
+use Rattle.tree.specs.Ans.{Ans, given}
+use Rattle.tree.specs.Stmts.{body, stmt}
+use Rattle.tree.specs.Decode.{textsOf}
+use Rattle.sema.specs.Limits.{keyLimit}
+use Rattle.sema.specs.Symbols.{Symbols}
+use Rattle.sema.specs.Marks.{Key}
+use Rattle.sema.specs.Keys.{keysStmt, keysStmts, keysElse}
+use Rattle.context.specs.declared.State.{State}
+use Rattle.context.specs.View.{scopesOf, keysIn}
+use Rattle.tables.specs.Tables.{tablesEnd}
+use Rattle.sheet.specs.Sheet.{KeysAdded}
+use Rattle.sheet.specs.Behind.{Blank}
+use Rattle.promises.specs.Walks.{StmtWalked, BodyWalked}
+
+-- the keys of what was read, added to others
+abbrev pub stmtKeys : Ans Stmt → Symbols → List Key → List Key
+stmtKeys x ss ks = given ks (λ st. keysStmt st ss ks) x
+
+abbrev pub bodyKeys : Ans Stmts → Symbols → List Key → List Key
+bodyKeys x ss ks = given ks (λ b. keysStmts b ss ks) x
+
+abbrev pub elseKeys : Ans Else → Symbols → List Key → List Key
+elseKeys x ss ks = given ks (λ e. keysElse e ss ks) x
+
+-- The index i has become i′, with the keys ks, and the scratch s has become s′. Where the keys are not too many, all of it was walked over,
+-- and the sheet is blank behind them; where they are, the walk has stopped.
+pub record Went (i i′ : List ℕ) (ks : List Key) (s s′ : List ℕ) (r : State) (W : Type 0) : Type 0 where
+  pub added : KeysAdded i i′ (r .keys) ks
+  pub index-length : length i′ ≡ length i
+  pub scratch-length : length s′ ≡ length s
+  pub scratch-rest : drop tablesEnd s′ ≡ drop tablesEnd s
+  pub walked : r .keys ≤ keyLimit → W
+  pub behind : r .keys ≤ keyLimit → Blank (r .keys) (r .marks)
+
+-- So of one statement, and of a body, whose statements have so many levels left.
+abbrev pub StmtWent : List ℕ → ℕ → State → List ℕ → List ℕ → List ℕ → State → List ℕ → List ℕ → List ℕ → Type 0
+StmtWent tree left st i s o r i′ s′ o′ =
+    Went i i′ (stmtKeys (stmt (textsOf tree) left tree (st .at)) (scopesOf s (9 - left)) (keysIn i (st .keys))) s s′ r (StmtWalked tree i′ (r .keys) left st s o r s′ o′)
+
+abbrev pub BodyWent : List ℕ → ℕ → State → List ℕ → List ℕ → List ℕ → State → List ℕ → List ℕ → List ℕ → Type 0
+BodyWent tree left st i s o r i′ s′ o′ =
+    Went i i′ (bodyKeys (body (stmt (textsOf tree) left) tree (st .at)) (scopesOf s (9 - left)) (keysIn i (st .keys))) s s′ r (BodyWalked tree i′ (r .keys) left st s o r s′ o′)
