@@ -33,7 +33,7 @@ use Rattle.checker.specs.Check.{Ran, Staged, Told, sinkAt}
 use Rattle.checker.proofs.Programs.{program-is, program-body, new-context}
 
 -- what lies past the bytes of a call, by what lies past the tables
-pub rest-past : (s s′ : List ℕ) → drop tablesEnd s′ ≡ drop tablesEnd s → drop 65536 s′ ≡ drop 65536 s
+rest-past : (s s′ : List ℕ) → drop tablesEnd s′ ≡ drop tablesEnd s → drop 65536 s′ ≡ drop 65536 s
 rest-past s s′ e = sym (drop-drop 14336 tablesEnd s′) ∙ ap (drop 14336) e ∙ drop-drop 14336 tablesEnd s
 
 -- from one empty scope and no keys, the keys of the whole program

@@ -3,8 +3,8 @@ use context::Index;
 use context::Sink;
 use context::State;
 use reader::Validated;
+use sheet::new_keys::OVER;
 use verdict::Answer;
-use walk::OVER;
 ghost use mathlib.Core.Path.{_≡_};
 ghost use Prim.Native.Nat.{ℕ, _+_, _≤_};
 ghost use lib.ListN.{length};
@@ -25,7 +25,7 @@ ghost use Rattle.checker.specs.Check.{SameRest, Judged, JudgedFile, Ran,
 // Lines of so many bytes need one walk.
 const STAGE: usize = 8192;
 
-// What a walk over a whole tree gives: the listing, and how many keys there are; 257 is too many.
+// What a walk over a whole tree gives: the listing, and how many keys there are, or OVER.
 struct Outcome {
     sink: Sink,
     keys: usize,
@@ -75,7 +75,7 @@ fn learn(tree: &[u8], index: &mut Index, scratch: &mut [u8], stage: &mut [u8], a
     run(tree, index, scratch, stage, at, 0)
 }
 
-// The second walk writes: the counts of the first are known, the keys are few, and the buffer has room.
+// The second walk writes: the counts of the first are known, and the keys are few.
 fn write(
     tree: &[u8],
     index: &mut Index,

@@ -195,7 +195,7 @@ pub fn reset(
     }
 }
 
-// The keys in the index, with those that the measure statement at `at` sets; 257 is too many.
+// Puts the keys of the measure statement at `at` into the index: how many there are then, or OVER.
 pub fn add_keys(
     tree: &[u8],
     index: &mut Index,

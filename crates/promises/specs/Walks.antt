@@ -28,7 +28,7 @@ use Rattle.promises.specs.Emitted.{Emitted}
 abbrev pub stateOf : ℕ → Sink → List ℕ → State
 stateOf at sink marks = record { at = at; sink = sink; keys = 0; marks = marks }
 
--- what holds before every statement of a walk, whatever the state
+-- what holds before every statement of a walk, whatever the scratch, the listing and the marks
 pub record Walkable (tree index : List ℕ) (keys : ℕ) : Type 0 where
   pub small : length tree ≤ fileLimit
   pub texts : TextsAt tree index
@@ -50,7 +50,7 @@ pub record Passable (tree index scratch : List ℕ) (sink : Sink) : Type 0 where
   pub few : FewParams (functionsOf scratch)
   pub fits : SinkFits sink
 
--- every key that the statement that was read sets is in the table
+-- every key that the statement that was read sets is in the index
 pub record StmtKeyed (ks : List Key) (ss : Symbols) (x : Ans Stmt) : Type 0 where
   pub each : (st : Stmt) (n : ℕ) → x ≡ ok st n → (k : Key) → SetsStmt st ss k → hasKey ks k ≡ true
 

@@ -29,7 +29,8 @@ abbrev pub elseKeys : Ans Else → Symbols → List Key → List Key
 elseKeys x ss ks = given ks (λ e. keysElse e ss ks) x
 
 -- The index i has become i′, with the keys ks, and the scratch s has become s′. Where the keys are not too many, all of it was walked over,
--- and the sheet is blank behind them; where they are, the walk has stopped.
+-- and the sheet is blank behind them. Where they are, the walk has stopped: then nothing is said of the place, the listing, the marks and the
+-- tables, since the answer is refusal 7 whatever they are.
 pub record Went (i i′ : List ℕ) (ks : List Key) (s s′ : List ℕ) (r : State) (W : Type 0) : Type 0 where
   pub added : KeysAdded i i′ (r .keys) ks
   pub index-length : length i′ ≡ length i

@@ -1,7 +1,7 @@
 -- Laws of an index that grows: what was walked over with fewer keys was so with more, and what a later part asks. Assumes nothing.
 use Prim.Native.Nat.{ℕ, _≤_}
 use mathlib.Core.Path.{_≡_, sym, ap, _∙_}
-use mathlib.Core.List.{List, [], _∷_, _++_, append-nil, append-assoc}
+use mathlib.Core.List.{List, [], _++_, append-nil}
 use native.Mathlib.Omega.{arith}
 use lib.ListN.{length, length-append}
 use Rattle.ast.specs.Tree.{Text, Stmt, Stmts, Else}
@@ -9,68 +9,69 @@ use Rattle.tree.specs.Ans.{Ans, ok, refused, given}
 use Rattle.sema.specs.Limits.{keyLimit}
 use Rattle.sema.specs.Symbols.{Symbols}
 use Rattle.sema.specs.Marks.{Key}
-use Rattle.sema.specs.Keys.{hasKey, addKey, keysStmt, keysStmts, keysElse}
+use Rattle.sema.specs.Keys.{keysStmt, keysStmts, keysElse}
+use Rattle.sema.specs.KeyCount.{grown-stmt, grown-stmts, grown-else}
+use Rattle.sema.specs.LawsKeys.{Grown}
 use Rattle.context.specs.declared.State.{State}
 use Rattle.context.specs.View.{keysIn, marksOf}
 use Rattle.sheet.specs.Sheet.{Distinct, KeysAdded}
-use Rattle.sheet.specs.Places.{by-test}
-use Rattle.sheet.specs.Table.{length-keys, add-there, add-new, keep-stmt, keep-stmts, keep-else, added-full}
-use Rattle.sheet.specs.Different.{more-distinct}
+use Rattle.sheet.specs.Table.{length-keys, added-full}
+use Rattle.sheet.specs.Different.{distinct-said, distinct-tested}
 use Rattle.sheet.specs.Behind.{Blank, blank-more, marks-more}
 use Rattle.context.specs.Kept.{texts-kept}
 use Rattle.promises.specs.Walks.{Walkable, Walk, Walked}
 use Rattle.promises.specs.Went.{stmtKeys, bodyKeys, elseKeys, Went}
 
 -- keys, and some more behind them
-pub record Grown (ks ls : List Key) : Type 0 where
+pub record Longer (ks ls : List Key) : Type 0 where
   pub distinct : Distinct ks → Distinct ls
   pub more : List Key
   pub is : ls ≡ ks ++ more
 
-grown-none : (ks : List Key) → Grown ks ks
-grown-none ks = record { distinct = λ d. d; more = []; is = sym (append-nil ks) }
+longer-none : (ks : List Key) → Longer ks ks
+longer-none ks = record { distinct = λ d. d; more = []; is = sym (append-nil ks) }
 
-grown-key : (ks ls : List Key) (k : Key) → Grown ks ls → Grown ks (addKey ls k)
-grown-key ks ls k g =
-    by-test (hasKey ls k)
-    (λ e. rw (add-there ls k e) g)
-    (λ e. record { distinct = λ d. more-distinct ls k (g .distinct d); more = g .more ++ k ∷ []; is = add-new ls k e ∙ ap (λ (z : List Key). z ++ k ∷ []) (g .is) ∙ append-assoc ks (g .more) (k ∷ []) })
+longer-of : {P : Key → Type 0} {ks ls : List Key} → Grown keyLimit P ks ls → Longer ks ls
+longer-of {ks = ks} {ls = ls} g = record { distinct = λ d. distinct-tested ls (g .distinct (distinct-said ks d)); more = g .behind .0; is = g .behind .1 }
 
-pub grown-as : {ks ls ms : List Key} → ls ≡ ms → Grown ks ls → Grown ks ms
-grown-as e g = rw (← e) g
+pub longer-as : {ks ls ms : List Key} → ls ≡ ms → Longer ks ls → Longer ks ms
+longer-as e g = rw (← e) g
 
-pub grown-longer : {ks ls : List Key} → Grown ks ls → length ks ≤ length ls
-grown-longer {ks} g = rw (g .is, length-append ks (g .more)) (omega arith)
+pub longer-length : {ks ls : List Key} → Longer ks ls → length ks ≤ length ls
+longer-length {ks} g = rw (g .is, length-append ks (g .more)) (omega arith)
 
 -- the keys of what was read
-given-grown : {A : Type 0} (f : A → List Key) (ks : List Key) → ((a : A) → Grown ks (f a)) → (x : Ans A) → Grown ks (given ks f x)
+given-longer : {A : Type 0} (f : A → List Key) (ks : List Key) → ((a : A) → Longer ks (f a)) → (x : Ans A) → Longer ks (given ks f x)
 unfolding given
-given-grown f ks h (ok a n) = h a
-given-grown f ks h (refused n p) = grown-none ks
+given-longer f ks h (ok a n) = h a
+given-longer f ks h (refused n p) = longer-none ks
 
 module _ (ss : Symbols) (ks : List Key) where
-  pub stmt-grown : (x : Ans Stmt) → Grown ks (stmtKeys x ss ks)
-  stmt-grown = given-grown (λ a. keysStmt a ss ks) ks (λ a. keep-stmt (Grown ks) (grown-key ks) a ss ks (grown-none ks))
+  pub stmt-longer : (x : Ans Stmt) → Longer ks (stmtKeys x ss ks)
+  stmt-longer = given-longer (λ a. keysStmt a ss ks) ks (λ a. longer-of (grown-stmt a ss ks))
 
-  pub body-as-grown : (b : Stmts) → Grown ks (keysStmts b ss ks)
-  body-as-grown b = keep-stmts (Grown ks) (grown-key ks) b ss ks (grown-none ks)
+  pub stmts-longer : (b : Stmts) → Longer ks (keysStmts b ss ks)
+  stmts-longer b = longer-of (grown-stmts b ss ks)
 
-  pub body-grown : (x : Ans Stmts) → Grown ks (bodyKeys x ss ks)
-  body-grown = given-grown (λ a. keysStmts a ss ks) ks body-as-grown
+  pub body-longer : (x : Ans Stmts) → Longer ks (bodyKeys x ss ks)
+  body-longer = given-longer (λ a. keysStmts a ss ks) ks stmts-longer
 
-  pub else-grown : (x : Ans Else) → Grown ks (elseKeys x ss ks)
-  else-grown = given-grown (λ a. keysElse a ss ks) ks (λ a. keep-else (Grown ks) (grown-key ks) a ss ks (grown-none ks))
+  pub other-longer : (e : Else) → Longer ks (keysElse e ss ks)
+  other-longer e = longer-of (grown-else e ss ks)
+
+  pub else-longer : (x : Ans Else) → Longer ks (elseKeys x ss ks)
+  else-longer = given-longer (λ a. keysElse a ss ks) ks other-longer
 
 -- marks are the same under more keys, where the sheet is blank behind those there were
-pub marks-grown : {ks ls : List Key} → Grown ks ls → (tree sheet : List ℕ) → Blank (length ks) sheet → marksOf tree ls sheet ≡ marksOf tree ks sheet
-marks-grown {ks} g tree sheet b = rw (g .is) (marks-more tree ks (g .more) sheet b)
+pub marks-longer : {ks ls : List Key} → Longer ks ls → (tree sheet : List ℕ) → Blank (length ks) sheet → marksOf tree ls sheet ≡ marksOf tree ks sheet
+marks-longer {ks} g tree sheet b = rw (g .is) (marks-more tree ks (g .more) sheet b)
 
 -- and so is what was walked over
-pub walked-grown : {tree : List ℕ} {t : List Text} {ks ls : List Key} {depth : ℕ} {walk : Walk} {end : ℕ} {st : State} {s o : List ℕ} {r : State} {s′ o′ : List ℕ} → Grown ks ls → Blank (length ks) (st .marks) → Blank (length ks) (r .marks)
+pub walked-longer : {tree : List ℕ} {t : List Text} {ks ls : List Key} {depth : ℕ} {walk : Walk} {end : ℕ} {st : State} {s o : List ℕ} {r : State} {s′ o′ : List ℕ} → Longer ks ls → Blank (length ks) (st .marks) → Blank (length ks) (r .marks)
     → Walked tree t ks depth walk end st s o r s′ o′ → Walked tree t ls depth walk end st s o r s′ o′
-walked-grown {tree} {st = st} {r = r} g a b w =
-    let e = marks-grown g tree (st .marks) a in
-    let f = marks-grown g tree (r .marks) b in
+walked-longer {tree} {st = st} {r = r} g a b w =
+    let e = marks-longer g tree (st .marks) a in
+    let f = marks-longer g tree (r .marks) b in
     record { at = w .at; goes = rw (e, f) (w .goes); emitted = rw e (w .emitted); below = w .below; same-length = w .same-length; same-rest = w .same-rest; few = w .few; placed = w .placed }
 
 -- under another state with the same place, listing and marks
@@ -83,8 +84,8 @@ pub blank-keys : {n : ℕ} {sheet : List ℕ} (i : List ℕ) → Blank n sheet �
 blank-keys {n} i b = rw (length-keys i 0 n) b
 
 -- what later parts ask of the index
-pub walkable-grown : {tree i i′ : List ℕ} {n m : ℕ} {ls : List Key} → Walkable tree i n → Grown (keysIn i n) ls → KeysAdded i i′ m ls → length i′ ≡ length i → m ≤ keyLimit → Walkable tree i′ m
-walkable-grown {tree} {i} {i′} w g a l f =
+pub walkable-longer : {tree i i′ : List ℕ} {n m : ℕ} {ls : List Key} → Walkable tree i n → Longer (keysIn i n) ls → KeysAdded i i′ m ls → length i′ ≡ length i → m ≤ keyLimit → Walkable tree i′ m
+walkable-longer {tree} {i} {i′} w g a l f =
     let z : length i′ ≡ 768 = l ∙ w .texts .size in
     record {
       small = w .small;
@@ -118,10 +119,10 @@ went-as g r f walks blank =
     }
 
 -- a sheet that was blank behind the keys is so behind more
-pub blank-grown : {i i′ : List ℕ} {n m : ℕ} {ls : List Key} {sheet : List ℕ} → Grown (keysIn i n) ls → KeysAdded i i′ m ls → m ≤ keyLimit → Blank n sheet → Blank m sheet
-blank-grown {i} {i′} {n} {m} {ls} g a f b =
+pub blank-longer : {i i′ : List ℕ} {n m : ℕ} {ls : List Key} {sheet : List ℕ} → Longer (keysIn i n) ls → KeysAdded i i′ m ls → m ≤ keyLimit → Blank n sheet → Blank m sheet
+blank-longer {i} {i′} {n} {m} {ls} g a f b =
     let e : length (keysIn i′ m) ≡ length ls = ap length (a .keys f) in
-    blank-more (omega (arith, length-keys i 0 n, length-keys i′ 0 m, grown-longer g, e)) b
+    blank-more (omega (arith, length-keys i 0 n, length-keys i′ 0 m, longer-length g, e)) b
 
 -- a count that is not one too many is no more than the limit
 pub within : {i i′ : List ℕ} {count : ℕ} {ks : List Key} → KeysAdded i i′ count ks → (count ≡ 257 → ⊥) → count ≤ keyLimit

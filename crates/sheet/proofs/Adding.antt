@@ -15,7 +15,7 @@ use Rattle.context.specs.View.{keyBy, keyAt, keysFrom, keysIn}
 use Rattle.sheet.specs.Sheet.{Indexed, position, KeysAdded}
 use Rattle.sheet.specs.Heads.{index-key}
 use Rattle.sheet.specs.Places.{by-test, has-here, has-there, position-has, position-none}
-use Rattle.sheet.specs.Table.{length-keys, add-there, add-new, length-new, AtLeast, more-long, keep-indices, keys-stored, added-full}
+use Rattle.sheet.specs.Table.{none-added, length-keys, add-there, add-new, length-new, AtLeast, more-long, keep-indices, keys-stored, added-full}
 
 -- one key
 module _ (index : List ℕ) (count head i n : ℕ) (t : Indexed index count) (e : n ≡ position (keysIn index count) (keyBy head i)) where
@@ -67,7 +67,7 @@ added-near index count head i near r t h e f =
     let ks = keysIn index count in
     let b : 0 + near ≡ near = omega arith in
     let a = add-there ks (keyBy head i) (has-at index count 0 (keyBy head i) near h (rw b (sym e ∙ f))) in
-    rw a (record { counted = omega (arith, length-keys index 0 count, t .few); keys = λ g. refl; texts = refl })
+    rw a (none-added index count t)
 
 -- the number of a key is at most how many there are
 position-few : (ls : List Key) (k : Key) → position ls k ≤ length ls

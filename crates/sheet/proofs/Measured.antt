@@ -14,14 +14,14 @@ use Rattle.context.specs.Values.{numberOf, endsOf}
 use Rattle.context.specs.View.{keyBy, keysIn}
 use Rattle.sheet.specs.Sheet.{Indexed, KeysAdded}
 use Rattle.sheet.specs.Heads.{whole-key, index-key}
-use Rattle.sheet.specs.Table.{length-keys, AtLeast, more-long, keep-range, range-most, added-then, added-full}
+use Rattle.sheet.specs.Table.{none-added, AtLeast, more-long, keep-range, range-most, added-then, added-full}
 
 -- a slice
 pub slice-none : (index : List ℕ) (count x a b : ℕ) → Indexed index count → b < a → KeysAdded index index count (addRange (keysIn index count) x a (suc b - a))
 unfolding addRange addIndices
 slice-none index count x a b t h =
     let e : suc b - a ≡ 0 = omega arith in
-    rw e (record { counted = omega (arith, length-keys index 0 count, t .few); keys = λ g. refl; texts = refl })
+    rw e (none-added index count t)
 
 pub slice-some : (before after : List ℕ) (ks : List Key) (x a b n r : ℕ) → a ≤ b → n ≡ min (b - a) 257
     → KeysAdded before after r (addRange ks x a (n + 1)) → KeysAdded before after r (addRange ks x a (suc b - a))

@@ -62,7 +62,7 @@ place-none (l ∷ ls) (v ∷ vs) h k =
     (λ e. place-there l ls k v vs e ∙ place-none ls vs (blank-rest 0 0 v vs (omega arith) h) k)
 
 -- keys behind those there are show no mark
-pub place-more : (ks more : List Key) (vs : List ℕ) → Blank (length ks) vs → (k : Key) → placeIn (ks ++ more) vs k ≡ placeIn ks vs k
+place-more : (ks more : List Key) (vs : List ℕ) → Blank (length ks) vs → (k : Key) → placeIn (ks ++ more) vs k ≡ placeIn ks vs k
 unfolding placeIn
 place-more [] more vs h k = place-none more vs h k
 place-more (l ∷ ls) more [] h k = refl

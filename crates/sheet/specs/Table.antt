@@ -1,20 +1,19 @@
 -- Laws of the key table: keys are added behind the others, and none is lost. Assumes nothing.
-use Prim.Native.Nat.{ℕ, zero, suc, _+_, _-_, _*_, _≤_, _<_, min}
+use Prim.Native.Nat.{ℕ, zero, suc, _+_, _*_, _≤_, _<_, min}
 use mathlib.Core.Path.{_≡_, refl, ap, _∙_}
 use mathlib.Core.List.{List, [], _∷_, _++_}
-use mathlib.Core.Option.{Option, none, some}
+use mathlib.Core.Option.{none, some}
 use mathlib.Core.Bool.{true, false}
 use native.Mathlib.Omega.{arith}
 use lib.ListN.{length, getD, set, length-set, length-append}
 use lib.Seq.{getD-set-same, getD-set-other}
-use Rattle.sema.specs.Constants.{or0}
-use Rattle.ast.specs.Tree.{TextNumber, Stmt, Stmts, noStmt, moreStmt, Else, noElse, someElse}
-use Rattle.sema.specs.Symbols.{Symbols, empty, get, after, gateScope, loopScope}
-use Rattle.sema.specs.Marks.{Key, key, sizeOf}
-use Rattle.sema.specs.Keys.{hasKey, addKey, addIndices, addRange, addMeasured, keysStmt, keysStmts, keysElse}
+use Rattle.ast.specs.Tree.{TextNumber}
+use Rattle.sema.specs.Symbols.{after}
+use Rattle.sema.specs.Marks.{Key, key}
+use Rattle.sema.specs.Keys.{hasKey, addKey, addIndices, addRange}
 use Rattle.context.specs.View.{keyBy, keyAt, keysFrom, keysIn}
 use Rattle.sema.specs.Limits.{keyLimit}
-use Rattle.sheet.specs.Sheet.{KeysAdded}
+use Rattle.sheet.specs.Sheet.{Indexed, KeysAdded}
 use Rattle.sheet.specs.Places.{by-test}
 
 pub length-keys : (index : List ℕ) (k n : ℕ) → length (keysFrom index k n) ≡ n
@@ -48,43 +47,6 @@ module _ (P : List Key → Type 0) (more : (ks : List Key) (k : Key) → P ks �
   pub keep-range : (ks : List Key) (x : TextNumber) (i n : ℕ) → P ks → P (addRange ks x i n)
   unfolding addRange
   keep-range ks x i n h = keep-indices ks x (min n 257) i h
-
-  pub keep-measured : (ks : List Key) (x : TextNumber) (size : Option ℕ) (slice : Option (ℕ × ℕ)) (index : Option ℕ)
-      → P ks → P (addMeasured ks x size slice index)
-  unfolding addMeasured
-  keep-measured ks x size none none h = keep-range (addKey ks (key x none)) x 0 (or0 size) (more ks (key x none) h)
-  keep-measured ks x size none (some i) h = more ks (key x (some i)) h
-  keep-measured ks x size (some r) index h = keep-range ks x (r .0) (suc (r .1) - r .0) h
-
-  mutual
-    unfolding keysStmt keysStmts keysElse
-
-    pub keep-stmt : (s : Stmt) (ss : Symbols) (ks : List Key) → P ks → P (keysStmt s ss ks)
-    keep-stmt (Stmt.Include at path sp) ss ks h = h
-    keep-stmt (Stmt.QubitDecl at x size sp) ss ks h = h
-    keep-stmt (Stmt.BitDecl at x size sp) ss ks h = h
-    keep-stmt (Stmt.ClassicalDecl at q ty x init sp) ss ks h = h
-    keep-stmt (Stmt.Assignment at x op value sp) ss ks h = h
-    keep-stmt (Stmt.GateCall at x modifiers params args sp) ss ks h = h
-    keep-stmt (Stmt.GateDef at x params qparams body sp) ss ks h = keep-stmts body (gateScope params qparams sp ∷ ss) ks h
-    keep-stmt (Stmt.FunctionDef at x params return-type body sp) ss ks h = h
-    keep-stmt (Stmt.Measure at qubit target sp) ss ks h =
-        keep-measured ks (qubit .name) (sizeOf (get ss (qubit .name))) (qubit .slice) (qubit .index) h
-    keep-stmt (Stmt.Reset at target sp) ss ks h = h
-    keep-stmt (Stmt.Barrier at targets sp) ss ks h = h
-    keep-stmt (Stmt.Delay at duration targets sp) ss ks h = h
-    keep-stmt (Stmt.If at condition then-body else-body sp) ss ks h =
-        keep-else else-body ss (keysStmts then-body (empty ∷ ss) ks) (keep-stmts then-body (empty ∷ ss) ks h)
-    keep-stmt (Stmt.For at x ty range body sp) ss ks h = keep-stmts body (loopScope x ty sp ∷ ss) ks h
-    keep-stmt (Stmt.While at condition body sp) ss ks h = keep-stmts body (empty ∷ ss) ks h
-
-    pub keep-stmts : (b : Stmts) (ss : Symbols) (ks : List Key) → P ks → P (keysStmts b ss ks)
-    keep-stmts noStmt ss ks h = h
-    keep-stmts (moreStmt s r) ss ks h = keep-stmts r (after ss s) (keysStmt s ss ks) (keep-stmt s ss ks h)
-
-    pub keep-else : (e : Else) (ss : Symbols) (ks : List Key) → P ks → P (keysElse e ss ks)
-    keep-else noElse ss ks h = h
-    keep-else (someElse body) ss ks h = keep-stmts body (empty ∷ ss) ks h
 
 -- such are: the keys are at least so many
 abbrev pub AtLeast : ℕ → List Key → Type 0
@@ -125,6 +87,10 @@ keys-stored index count head i l h =
 pub range-most : (ks : List Key) (x : TextNumber) (i n m : ℕ) → min n 257 ≡ min m 257 → addRange ks x i n ≡ addRange ks x i m
 unfolding addRange
 range-most ks x i n m e = rw e
+
+-- no key more
+pub none-added : (i : List ℕ) (count : ℕ) → Indexed i count → KeysAdded i i count (keysIn i count)
+none-added i count t = record { counted = omega (arith, length-keys i 0 count, t .few); keys = λ l. refl; texts = refl }
 
 -- one step after another
 module _ (before mid after : List ℕ) (c : ℕ) (ks : List Key) (a : KeysAdded before mid c ks) where

@@ -1,5 +1,5 @@
 // The mark sheet: for each key of the index the place of the measure statement that marked it, or 0.
-// The walk over a tree calls these functions. The index has the keys that it has met; behind them the sheet is blank.
+// The walk over a tree calls these functions. The index has the keys that the walk has met; behind them the sheet is blank.
 pub mod new_keys;
 
 ghost use mathlib.Core.Path.{_≡_};

@@ -15,6 +15,9 @@ use context::Ends;
 use context::GateOperand;
 use context::Number;
 
+// More keys than there may be.
+pub const OVER: usize = 257;
+
 // The number of a key, or the count where it is not there.
 fn find(index: &[u64], count: usize, head: u64, i: u64) -> usize
     requires { ⌜ Indexed (now index) count ⌝ }
@@ -30,7 +33,7 @@ fn find(index: &[u64], count: usize, head: u64, i: u64) -> usize
     k
 }
 
-// A key more, if it is not there; 257 where there is no room, and the index is as it was.
+// A key more, if it is not there; OVER where there is no room, and the index is as it was.
 fn add_key(index: &mut [u64], count: usize, head: u64, i: u64) -> usize
     requires { ⌜ Indexed (now index) count ⌝ }
     ensures added { λ r. ⌜ KeysAdded (now (index .entry)) (now (index .exit)) r (addKey (keysIn (now (index .entry)) count) (keyBy head i)) ⌝ }
@@ -41,7 +44,7 @@ fn add_key(index: &mut [u64], count: usize, head: u64, i: u64) -> usize
         return count;
     }
     if count == 256 {
-        return 257;
+        return OVER;
     }
     index[256 + 2 * count] = head;
     index[256 + 2 * count + 1] = i;
@@ -68,7 +71,7 @@ fn at_most_257(n: u64) -> u64
     if n < 257 { n } else { 257 }
 }
 
-// So many indices of a name, from i on; 257 where there is no room for all.
+// So many indices of a name, from i on; OVER where there is no room for all.
 fn add_range(index: &mut [u64], count: usize, x: usize, i: u64, n: u64) -> usize
     requires { ⌜ Indexed (now index) count ⌝ }
     requires { ⌜ (x < 256) × (i + n ≤ 2 ^ 64) ⌝ }
@@ -81,8 +84,8 @@ fn add_range(index: &mut [u64], count: usize, x: usize, i: u64, n: u64) -> usize
     let mut j = 0;
     while j < m {
         c = add_near(index, c, first + j as usize, head, i + j);
-        if c == 257 {
-            return 257;
+        if c == OVER {
+            return OVER;
         }
         j += 1;
     }
@@ -109,8 +112,8 @@ fn add_whole(index: &mut [u64], count: usize, x: usize, size: Number) -> usize
     ensures { λ r. ⌜ KeysAdded (now (index .entry)) (now (index .exit)) r (addRange (addKey (keysIn (now (index .entry)) count) (key x none)) x 0 (or0 (numberOf size))) ⌝ }
 {
     let c = add_key(index, count, whole_head(x), 0);
-    if c == 257 {
-        return 257;
+    if c == OVER {
+        return OVER;
     }
     match size {
         Number::Some(n) => add_range(index, c, x, 0, n),
@@ -118,7 +121,7 @@ fn add_whole(index: &mut [u64], count: usize, x: usize, size: Number) -> usize
     }
 }
 
-// The keys that a measure of the operand sets, where its name shows a size; 257 where there is no room for all.
+// The keys that a measure of the operand sets, where its name shows a size; OVER where there is no room for all.
 pub fn add_measured(index: &mut [u64], count: usize, op: GateOperand, size: Number) -> usize
     requires { ⌜ Indexed (now index) count ⌝ }
     requires { ⌜ op .name < 256 ⌝ }

@@ -34,7 +34,7 @@ size-some s at m n h e = rw (some-suc (getD s at 0) h, e)
 pub symbol-none : (s : List ℕ) (level x : ℕ) → getD s (codePlace level x) 0 ≡ 0 → foundOf FoundSymbol.None ≡ symbolAt s level x
 symbol-none s level x e = rw e
 
-pub symbol-some : (s : List ℕ) (level x : ℕ) (v : SymbolValue) → (getD s (codePlace level x) 0 ≡ 0 → ⊥) → kindOf (v .kind) ≡ getD kinds (getD s (codePlace level x) 0 - 1) Qubit → numberOf (v .size) ≡ sizeBy (getD s (symbolPlace level x) 0) (numberAt 8 s (symbolPlace level x + 1)) → v .«decl_span» ≡ spanAt s (symbolPlace level x + 9) → foundOf (FoundSymbol.Some v) ≡ symbolAt s level x
+symbol-some : (s : List ℕ) (level x : ℕ) (v : SymbolValue) → (getD s (codePlace level x) 0 ≡ 0 → ⊥) → kindOf (v .kind) ≡ getD kinds (getD s (codePlace level x) 0 - 1) Qubit → numberOf (v .size) ≡ sizeBy (getD s (symbolPlace level x) 0) (numberAt 8 s (symbolPlace level x + 1)) → v .«decl_span» ≡ spanAt s (symbolPlace level x + 9) → foundOf (FoundSymbol.Some v) ≡ symbolAt s level x
 symbol-some s level x v h k z p =
     let code = getD s (codePlace level x) 0 in
     let q : symbolAt s level x ≡ symbolBy s (symbolPlace level x) (suc (code - 1)) = ap (symbolBy s (symbolPlace level x)) (some-suc code h) in

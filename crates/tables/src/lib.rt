@@ -170,7 +170,7 @@ fn symbol_at(s: &[u8], level: usize, x: usize) -> FoundSymbol
         return FoundSymbol::None;
     }
     let at = base + CODES + x * SYMBOL;
-    let entry = &s[at..at + SYMBOL]; // from a part of its own, a number is read by one load
+    let entry = &s[at..at + SYMBOL]; // from a part of its own, the compiler reads a number by one load
     let kind = kind_of(code);
     let size = size_at(entry, 0);
     let decl_span = span_at(entry, 9);

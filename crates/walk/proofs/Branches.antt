@@ -23,11 +23,10 @@ use Rattle.accepted.specs.Parts.{valueOr, given-is, given-ok}
 use Rattle.accepted.specs.Bodies.{stmt-left, body-forward}
 use Rattle.accepted.specs.Stmts.{branch-condition, branch-body, branch-else, branch-is, branch-inside}
 use Rattle.promises.specs.Emitted.{emitted-then, emitted-as}
-use Rattle.sheet.specs.Table.{length-keys, AtLeast, more-long, keep-else}
-use Rattle.sheet.specs.Behind.{Blank, blank-more}
+use Rattle.sheet.specs.Behind.{Blank}
 use Rattle.promises.specs.Walks.{Walkable, Ready, Walked, StmtWalked, BodyWalked}
 use Rattle.promises.specs.Went.{stmtKeys, elseKeys, Went, StmtWent, BodyWent}
-use Rattle.promises.specs.WentLaws.{Grown, grown-as, grown-longer, body-as-grown, else-grown, walked-grown, blank-keys, walkable-grown, went-over, within}
+use Rattle.promises.specs.WentLaws.{Longer, longer-as, longer-length, stmts-longer, other-longer, else-longer, walked-longer, blank-keys, blank-longer, walkable-longer, went-over, within}
 use Rattle.promises.specs.WalkLaws.{stmt-walked}
 use Rattle.bodies.specs.Opened.{ConditionOpened}
 use Rattle.walk.specs.Bodies.{entryOf, walkElse, ElseWalked, ElseWent}
@@ -39,7 +38,7 @@ module _ (tree : List ℕ) (left : ℕ) (st : State) (h : IsOk (stmt (textsOf tr
   abbrev t : List Text
   t = textsOf tree
 
-  pub left-some : 0 < left
+  left-some : 0 < left
   left-some = stmt-left t left tree (st .at) h
 
   -- where the `then` body stands, and where the `else`
@@ -88,7 +87,7 @@ module _ (tree : List ℕ) (left : ℕ) (st : State) (h : IsOk (stmt (textsOf tr
     pub then-over : w .keys ≡ 257 → {o‴ : List ℕ} → StmtWent tree left st index s o w index₁ s″ o‴
     then-over e =
         let ss = scopesOf s (9 - left) in
-        went-over then-went e _ (rw (if-keys ss (keysIn index (st .keys))) (keep-else (AtLeast (length (thenKeys ss (keysIn index (st .keys))))) (more-long _) elseRest ss _ (omega arith))) _
+        went-over then-went e _ (rw (if-keys ss (keysIn index (st .keys))) (longer-length (other-longer ss _ elseRest))) _
 
     module _ (u : w .keys ≡ 257 → ⊥) where
       few : w .keys ≤ keyLimit
@@ -116,14 +115,11 @@ module _ (tree : List ℕ) (left : ℕ) (st : State) (h : IsOk (stmt (textsOf tr
       pub then-placed : Placed tree (w .marks)
       then-placed = walked-then .placed
 
-      then-grown : Grown (keysIn index (st .keys)) (keysIn index₁ (w .keys))
-      then-grown = grown-as (sym (then-went .added .keys few)) (body-as-grown (empty ∷ scopesOf s (9 - left)) (keysIn index (st .keys)) thenRest)
-
       pub else-walkable : Walkable tree index (st .keys) → Walkable tree index₁ (w .keys)
-      else-walkable x = walkable-grown x (body-as-grown (empty ∷ scopesOf s (9 - left)) (keysIn index (st .keys)) thenRest) (then-went .added) (v .index-length) few
+      else-walkable x = walkable-longer x (stmts-longer (empty ∷ scopesOf s (9 - left)) (keysIn index (st .keys)) thenRest) (then-went .added) (v .index-length) few
 
       pub else-behind : Blank (st .keys) (st .marks) → Blank (w .keys) (st .marks) × Blank (w .keys) (w .marks)
-      else-behind x = (blank-more (omega (arith, length-keys index 0 (st .keys), length-keys index₁ 0 (w .keys), grown-longer then-grown)) x, v .behind few)
+      else-behind x = (blank-longer (stmts-longer (empty ∷ scopesOf s (9 - left)) (keysIn index (st .keys)) thenRest) (then-went .added) few x, v .behind few)
 
       module _ (f : State) (index₂ s‴ o‴ : List ℕ) (g : ElseWent tree left (st .marks) w index₁ s″ o″ f index₂ s‴ o‴) (x : Blank (st .keys) (st .marks)) where
         else-keys : elseKeys (elseBody (stmt t (left - 1)) tree (w .at)) (scopesOf s″ (9 - left)) (keysIn index₁ (w .keys)) ≡ stmtKeys (stmt t left tree (st .at)) (scopesOf s (9 - left)) (keysIn index (st .keys))
@@ -161,11 +157,11 @@ module _ (tree : List ℕ) (left : ℕ) (st : State) (h : IsOk (stmt (textsOf tr
           if-room = let n = branch-inside t left tree (st .at) h b _ refl _ refl _ refl in rw (walked-else .at, else-at) n
 
           -- the `then` body, with the keys of the `else` as well
-          else-grown′ : Grown (keysIn index₁ (w .keys)) ks
-          else-grown′ = grown-as (sym (g .added .keys few₂)) (else-grown (scopesOf s″ (9 - left)) (keysIn index₁ (w .keys)) (elseBody (stmt t (left - 1)) tree (w .at)))
+          after-longer : Longer (keysIn index₁ (w .keys)) ks
+          after-longer = longer-as (sym (g .added .keys few₂)) (else-longer (scopesOf s″ (9 - left)) (keysIn index₁ (w .keys)) (elseBody (stmt t (left - 1)) tree (w .at)))
 
           then-again : Walked tree t ks (suc (9 - left)) (analyzeStmts t thenRest) elseAt i s′ o′ w s″ o″
-          then-again = walked-grown else-grown′ (blank-keys index₁ (rw (p .marks) (else-behind x .0))) (blank-keys index₁ (v .behind few)) walked-then
+          then-again = walked-longer after-longer (blank-keys index₁ (rw (p .marks) (else-behind x .0))) (blank-keys index₁ (v .behind few)) walked-then
 
           abbrev c : SemaContext
           c = contextOf tree ks s (9 - left) (st .marks)

@@ -32,7 +32,7 @@ use Rattle.promises.specs.Went.{stmtKeys, elseKeys}
 use Rattle.promises.specs.WalkLaws.{context-is, stmt-walked}
 use Rattle.bodies.specs.Opened.{gateBody, gateSpan, gateParams, gateQparams, forBody, forSpan, GateOpened, ConditionOpened, ForOpened}
 use Rattle.walk.specs.Bodies.{entryOf, LoopWalked, walkElse, ElseOpened, ElseWalked, ElseWent}
-use Rattle.walk.proofs.Steps.{none-added}
+use Rattle.sheet.specs.Table.{none-added}
 use Rattle.walk.proofs.Enclosed.{enclosed, ended-marks, body-walked}
 use Rattle.walk.proofs.Held.{Holds, loop-walked}
 use Rattle.walk.proofs.Further.{gate-further, for-further, while-further}
@@ -117,7 +117,7 @@ module _ (tree index : List ℕ) (keys left : ℕ) (thens : List ℕ) (st : Stat
   ended = contextOf tree (keysIn index keys) s (suc (9 - left)) thens
 
   -- there is none: entry and exit united
-  pub none-walked : getD tree (st .at) 0 ≡ 0 → Ready tree s st → (r : State) → r .at ≡ st .at + 1 → r .sink ≡ st .sink → Placed tree (r .marks)
+  none-walked : getD tree (st .at) 0 ≡ 0 → Ready tree s st → (r : State) → r .at ≡ st .at + 1 → r .sink ≡ st .sink → Placed tree (r .marks)
       → marksOf tree (keysIn index keys) (r .marks) ≡ unite (marksOf tree (keysIn index keys) (st .marks)) (marksOf tree (keysIn index keys) thens)
       → Walked tree (textsOf tree) (keysIn index keys) (9 - left) (walkElse (textsOf tree) ended (elseBody (stmt (textsOf tree) (left - 1)) tree (st .at))) (nextOf (elseBody (stmt (textsOf tree) (left - 1)) tree (st .at))) st s o r s o
   unfolding analyzeElse

@@ -21,11 +21,11 @@ use Rattle.accepted.specs.Cases.{blankStmt}
 use Rattle.accepted.specs.Parts.{valueOr, value-is, given-is, given-ok, next-is}
 use Rattle.accepted.specs.Fields.{repeat-none}
 use Rattle.accepted.specs.Bodies.{stmt-forward, body-is, body-held, stmts-first, stmts-rest, stmts-is}
-use Rattle.sheet.specs.Table.{length-keys, AtLeast, more-long, keep-stmts}
-use Rattle.sheet.specs.Behind.{Blank, blank-more}
+use Rattle.sheet.specs.Table.{none-added}
+use Rattle.sheet.specs.Behind.{Blank}
 use Rattle.promises.specs.Walks.{Walkable, Ready, walkStmt, walkBody}
 use Rattle.promises.specs.Went.{stmtKeys, bodyKeys, StmtWent, BodyWent}
-use Rattle.promises.specs.WentLaws.{within, grown-as, grown-longer, stmt-grown, marks-grown, blank-keys, walkable-grown, went-over}
+use Rattle.promises.specs.WentLaws.{within, longer-as, longer-length, stmt-longer, stmts-longer, marks-longer, blank-keys, blank-longer, walkable-longer, went-over}
 use Rattle.sema.specs.LawsOnly.{symbols-after}
 
 -- n statements of the body at a place remain from r on, with the keys so far in the index i; what the walk makes of them is what it makes of
@@ -73,13 +73,13 @@ module _ (tree : List ℕ) (left n k : ℕ) (h : IsOk (repeat noStmt moreStmt (s
   more-is : repeat noStmt moreStmt (stmt t left) n tree k ≡ ok (moreStmt S R) (nextOf (repeat noStmt moreStmt (stmt t left) (n - 1) tree m))
   more-is = stmts-is t left tree n k h l m e
 
-  pub first-walk : (c : SemaContext) → walkStmt t (stmt t left tree k) c ≡ analyzeStmt t S c
+  first-walk : (c : SemaContext) → walkStmt t (stmt t left tree k) c ≡ analyzeStmt t S c
   first-walk c = ap (λ w. w c) (given-ok blankStmt _ (analyzeStmt t) (stmt t left tree k) (stmts-first t left tree n k h l))
 
-  pub rest-walk : (c : SemaContext) → walkBody t (repeat noStmt moreStmt (stmt t left) (n - 1) tree m) c ≡ analyzeStmts t R c
+  rest-walk : (c : SemaContext) → walkBody t (repeat noStmt moreStmt (stmt t left) (n - 1) tree m) c ≡ analyzeStmts t R c
   rest-walk c = ap (λ w. w c) (given-ok noStmt _ (analyzeStmts t) (repeat noStmt moreStmt (stmt t left) (n - 1) tree m) (stmts-rest t left tree n k h l m e))
 
-  pub whole-walk : (c : SemaContext) → walkBody t (repeat noStmt moreStmt (stmt t left) n tree k) c ≡ (analyzeStmts t R (analyzeStmt t S c .0) .0, analyzeStmt t S c .1 ++ analyzeStmts t R (analyzeStmt t S c .0) .1)
+  whole-walk : (c : SemaContext) → walkBody t (repeat noStmt moreStmt (stmt t left) n tree k) c ≡ (analyzeStmts t R (analyzeStmt t S c .0) .0, analyzeStmt t S c .1 ++ analyzeStmts t R (analyzeStmt t S c .0) .1)
   unfolding analyzeStmts
   whole-walk c = ap (λ w. w c) (given-is more-is _ (analyzeStmts t))
 
@@ -130,7 +130,7 @@ module _ (tree : List ℕ) (left at : ℕ) (r₀ : State) (i₀ s o : List ℕ) 
         going-over e st x y =
             let ls = stmtKeys (stmt (textsOf tree) left tree (r .at)) (scopesOf s′ (9 - left)) (keysIn i (r .keys)) in
             let f : length ls ≤ length (bodyKeys (body (stmt (textsOf tree) left) tree at) (scopesOf s (9 - left)) (keysIn i₀ (r₀ .keys))) =
-            rw (rest-keys _ refl, one-keys) (keep-stmts (AtLeast (length (keysStmt one (scopesOf s′ (9 - left)) (keysIn i (r .keys))))) (more-long _) _ _ _ (omega arith)) in
+            rw (rest-keys _ refl, one-keys) (longer-length (stmts-longer _ _ _)) in
             let q = went-over v e _ f Unit in
             rw (x, ← y)
             (record {
@@ -147,9 +147,9 @@ module _ (tree : List ℕ) (left at : ℕ) (r₀ : State) (i₀ s o : List ℕ) 
             let t = textsOf tree in
             let few = within (v .added) u in
             let w = v .walked few in
-            let G = grown-as (sym (v .added .keys few)) (stmt-grown (scopesOf s′ (9 - left)) (keysIn i (r .keys)) (stmt t left tree (r .at))) in
-            let mr = marks-grown G tree (r .marks) (blank-keys i (g .behind)) in
-            let ms = marks-grown G tree (r₀ .marks) (blank-keys i (g .entry-behind)) in
+            let G = longer-as (sym (v .added .keys few)) (stmt-longer (scopesOf s′ (9 - left)) (keysIn i (r .keys)) (stmt t left tree (r .at))) in
+            let mr = marks-longer G tree (r .marks) (blank-keys i (g .behind)) in
+            let ms = marks-longer G tree (r₀ .marks) (blank-keys i (g .entry-behind)) in
             let c = contextOf tree (keysIn i″ (r″ .keys)) s′ (9 - left) (r .marks) in
             let j = more-is tree left n (r .at) (g .rest) l (r″ .at) (w .at) in
             let f = first-walk tree left n (r .at) (g .rest) l (r″ .at) (w .at) c in
@@ -159,7 +159,6 @@ module _ (tree : List ℕ) (left at : ℕ) (r₀ : State) (i₀ s o : List ℕ) 
             let c″ : contextOf tree (keysIn i″ (r″ .keys)) s″ (9 - left) (r″ .marks) ≡ analyzeStmt t one c .0 = w .goes ∙ ap (λ p. p .0) f in
             let d : walkBody t (repeat noStmt moreStmt (stmt t left) (n - 1) tree (r″ .at)) (contextOf tree (keysIn i″ (r″ .keys)) s″ (9 - left) (r″ .marks)) .1 ≡ analyzeStmts t R″ (analyzeStmt t one c .0) .1 = ap (λ p. p .1) (q _) ∙ ap (λ (y : SemaContext). analyzeStmts t R″ y .1) c″ in
             let ss : scopesOf s″ (9 - left) ≡ after (scopesOf s′ (9 - left)) one = ap (λ (y : SemaContext). y .symbols) c″ ∙ symbols-after t _ c in
-            let more : r .keys ≤ r″ .keys = omega (arith, length-keys i 0 (r .keys), length-keys i″ 0 (r″ .keys), grown-longer G) in
             record {
               past = omega (arith, g .past, w .at, stmt-forward t left tree (r .at) going-stmt);
               rest = stmts-rest t left tree n (r .at) (g .rest) l (r″ .at) (w .at);
@@ -172,11 +171,11 @@ module _ (tree : List ℕ) (left at : ℕ) (r₀ : State) (i₀ s o : List ℕ) 
                   ∙ ap (λ y. emit t y (writtenOf (r .sink) o′)) (sym (ap (λ p. p .1) x))
                   ∙ rw (mr, ms) (g .says);
               keys = rest-keys (r″ .at) (w .at) ∙ rw (ss, v .added .keys few ∙ one-keys);
-              walkable = walkable-grown (g .walkable) (stmt-grown (scopesOf s′ (9 - left)) (keysIn i (r .keys)) (stmt t left tree (r .at))) (v .added) (v .index-length) few;
+              walkable = walkable-longer (g .walkable) (stmt-longer (scopesOf s′ (9 - left)) (keysIn i (r .keys)) (stmt t left tree (r .at))) (v .added) (v .index-length) few;
               texts = v .added .texts ∙ g .texts;
               index-length = v .index-length ∙ g .index-length;
               behind = v .behind few;
-              entry-behind = blank-more more (g .entry-behind);
+              entry-behind = blank-longer (stmt-longer (scopesOf s′ (9 - left)) (keysIn i (r .keys)) (stmt t left tree (r .at))) (v .added) few (g .entry-behind);
               ready = record { room = omega (arith, w .same-length, g .ready .room); few = w .few; placed = w .placed; fits = w .emitted .fits };
               below = λ d k. w .below d k ∙ g .below d k;
               same-length = w .same-length ∙ g .same-length;
@@ -195,7 +194,7 @@ module _ (tree : List ℕ) (left at : ℕ) (r₀ : State) (i₀ s o : List ℕ) 
         let f : bodyKeys (body (stmt t left) tree at) (scopesOf s (9 - left)) (keysIn i₀ (r₀ .keys)) ≡ keysIn i (r .keys) = g .keys ∙ ap (λ b. keysStmts b (scopesOf s′ (9 - left)) (keysIn i (r .keys))) (value-is e noStmt) in
         rw (x, ← z)
         (record {
-          added = rw f (record { counted = omega (arith, length-keys i 0 (r .keys), g .walkable .indexed .few); keys = λ m. refl; texts = g .texts });
+          added = rw f (let a = none-added i (r .keys) (g .walkable .indexed) in record { counted = a .counted; keys = a .keys; texts = g .texts });
           index-length = g .index-length;
           scratch-length = g .same-length;
           scratch-rest = g .same-rest;

@@ -1,6 +1,6 @@
 -- A statement without statements in it, and its keys. Assumes nothing.
 use Prim.Native.Nat.{ℕ, zero, suc, _-_, _≤_, _<_}
-use mathlib.Core.Path.{_≡_, refl, sym, ap, subst}
+use mathlib.Core.Path.{_≡_, refl, sym, subst}
 use mathlib.Core.List.{List}
 use mathlib.Core.Logic.{⊎-elim}
 use native.Mathlib.Omega.{arith}
@@ -19,16 +19,11 @@ use Rattle.context.specs.declared.State.{State}
 use Rattle.context.specs.View.{scopesOf, keysIn}
 use Rattle.accepted.specs.Parts.{given-is}
 use Rattle.accepted.specs.Stmts as of
-use Rattle.sheet.specs.Sheet.{Indexed, KeysAdded}
-use Rattle.sheet.specs.Table.{length-keys}
-use Rattle.sheet.specs.Behind.{Blank, blank-more}
+use Rattle.sheet.specs.Sheet.{KeysAdded}
+use Rattle.sheet.specs.Behind.{Blank}
 use Rattle.promises.specs.Walks.{stateOf, Walkable, StmtKeyed, StmtWalked}
 use Rattle.promises.specs.Went.{stmtKeys, StmtWent}
-use Rattle.promises.specs.WentLaws.{Grown, stmt-grown, grown-longer, walked-at, walkable-grown}
-
--- no key more
-pub none-added : (i : List ℕ) (count : ℕ) → Indexed i count → KeysAdded i i count (keysIn i count)
-none-added i count t = record { counted = omega (arith, length-keys i 0 count, t .few); keys = λ l. refl; texts = refl }
+use Rattle.promises.specs.WentLaws.{Longer, stmt-longer, walked-at, walkable-longer, blank-longer}
 
 -- none but a measure statement sets keys
 pub plain-keys : (tree : List ℕ) (left at : ℕ) → IsOk (stmt (textsOf tree) left tree at) → getD tree at 0 < 12 → (getD tree at 0 ≡ 6 → ⊥) → (getD tree at 0 ≡ 8 → ⊥) → (ss : Symbols) (ks : List Key) → stmtKeys (stmt (textsOf tree) left tree at) ss ks ≡ ks
@@ -64,11 +59,11 @@ module _ (tree : List ℕ) (left : ℕ) (st : State) (i i′ s : List ℕ) (coun
       }
 
   module _ (few : count ≤ keyLimit) where
-    one-grown : Grown (keysIn i (st .keys)) (stmtKeys (stmt (textsOf tree) left tree (st .at)) (scopesOf s (9 - left)) (keysIn i (st .keys)))
-    one-grown = stmt-grown (scopesOf s (9 - left)) (keysIn i (st .keys)) (stmt (textsOf tree) left tree (st .at))
+    one-longer : Longer (keysIn i (st .keys)) (stmtKeys (stmt (textsOf tree) left tree (st .at)) (scopesOf s (9 - left)) (keysIn i (st .keys)))
+    one-longer = stmt-longer (scopesOf s (9 - left)) (keysIn i (st .keys)) (stmt (textsOf tree) left tree (st .at))
 
     pub step-walkable : Walkable tree i (st .keys) → Walkable tree i′ count
-    step-walkable w = walkable-grown w one-grown a z few
+    step-walkable w = walkable-longer w one-longer a z few
 
     -- every key that the statement sets is there
     pub step-keyed : StmtKeyed (keysIn i′ count) (scopesOf s (9 - left)) (stmt (textsOf tree) left tree (st .at))
@@ -86,13 +81,11 @@ module _ (tree : List ℕ) (left : ℕ) (st : State) (i i′ s : List ℕ) (coun
     pub step-went : (r : State) → r .keys ≡ count → Blank (st .keys) (st .marks) → {o s′ o′ : List ℕ} → StmtWalked tree i′ count left (stateOf (st .at) (st .sink) (st .marks)) s o (stateOf (r .at) (r .sink) (r .marks)) s′ o′
         → ((n : ℕ) → count ≤ n → Blank n (st .marks) → Blank n (r .marks)) → StmtWent tree left st i s o r i′ s′ o′
     step-went r f b {o = o} {s′ = s′} {o′ = o′} w p =
-        let e : length (keysIn i′ count) ≡ length (stmtKeys (stmt (textsOf tree) left tree (st .at)) (scopesOf s (9 - left)) (keysIn i (st .keys))) = ap length (a .keys few) in
-        let more : st .keys ≤ count = omega (arith, length-keys i 0 (st .keys), length-keys i′ 0 count, grown-longer one-grown, e) in
         record {
           added = rw f a;
           index-length = z;
           scratch-length = w .same-length;
           scratch-rest = w .same-rest;
           walked = λ m. subst (λ (k : ℕ). StmtWalked tree i′ k left st s o r s′ o′) (sym f) (walked-at w st r refl refl refl refl refl);
-          behind = λ m. rw f (p count (omega arith) (blank-more more b));
+          behind = λ m. rw f (p count (omega arith) (blank-longer one-longer a few b));
         }

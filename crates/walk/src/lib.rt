@@ -1,11 +1,13 @@
 // The analysis of statements over accepted bytes: the Rust's analyze_stmt (plain_stmt, body_stmt) and analyze_stmts. The state is taken and
-// given by value, so a caller keeps the marks of the entry of a body; a statement without a body is lent the marks.
+// given by value, so a caller keeps the marks of the entry of a body; a statement without a body is lent the marks. Keys are numbered as
+// measure statements are met (keyed_stmt); once there are too many, the walk stops.
 
 use accepted::numbers::u16_at;
 use context::After;
 use context::Index;
 use context::Sink;
 use context::State;
+use sheet::new_keys::OVER;
 ghost use mathlib.Core.Path.{_≡_};
 ghost use mathlib.Core.Bool.{true, false};
 ghost use Prim.Native.Nat.{ℕ, _+_, _-_, _≤_, _<_};
@@ -20,14 +22,12 @@ ghost use Rattle.promises.specs.Walks.{stateOf, Walkable, Ready, StmtKeyed, Stm
 ghost use Rattle.promises.specs.Went.{stmtKeys, StmtWent, BodyWent};
 ghost use Rattle.walk.specs.Bodies.{movedTo, entryOf, isPlain, LoopWent, ElseWent};
 
-// More keys than there may be.
-pub const OVER: usize = 257;
-
-// What a statement without statements in it leaves beside the marks: the place past it, the listing, how many keys there are.
-pub struct Step {
-    pub next: usize,
-    pub sink: Sink,
-    pub keys: usize,
+// What a statement without statements in it leaves beside the marks: the place past it, the listing, how many keys there are. Where they
+// are too many, its own place.
+struct Step {
+    next: usize,
+    sink: Sink,
+    keys: usize,
 }
 
 // The state past what was checked: the keys and the marks stay.
@@ -194,7 +194,7 @@ fn is_plain(case: u8) -> bool
     false
 }
 
-// A statement without statements in it.
+// A statement without statements in it, whose keys are in the index.
 fn plain_stmt(
     tree: &[u8],
     index: &Index,
@@ -226,7 +226,7 @@ fn plain_stmt(
     }
 }
 
-// The keys in the index, with those of a measure statement; 257 is too many.
+// Puts the keys of a measure statement into the index: how many there are then, or OVER.
 fn keys_with(
     tree: &[u8],
     index: &mut Index,
@@ -245,7 +245,7 @@ fn keys_with(
     keys
 }
 
-// A statement without statements in it: its keys first. Where they are too many, nothing more is done.
+// Such a statement, its keys first. Where they are too many, nothing more is done.
 fn keyed_stmt(
     tree: &[u8],
     index: &mut Index,

@@ -1,5 +1,5 @@
 -- The cycle of statements and bodies meets its contracts. Assumes nothing.
-mod Measures
+mod Descent
 mod LoopBodies
 use Rattle.text.proofs.Unlike.{last-from}
 use Prim.Native.Nat.{ℕ, _+_}
@@ -10,7 +10,7 @@ use native.Mathlib.Omega.{arith}
 use Rattle.ast.specs.Tree.{Text}
 use Rattle.context.specs.declared.State.{State}
 use Rattle.promises.specs.Emitted.{emitted-none}
-use Rattle.promises.specs.WentLaws.{within, body-grown, blank-grown}
+use Rattle.promises.specs.WentLaws.{within, body-longer, blank-longer}
 use Rattle.walk.specs.Bodies.{entryOf, ElseOpened}
 use Rattle.accepted.specs.Bodies.{body-in, else-in, stmt-in, stmt-below, stmt-left}
 use Rattle.walk.proofs.Plain.{late}
@@ -19,7 +19,7 @@ use Rattle.walk.proofs.Enclosed.{opened-moved}
 use Rattle.walk.proofs.Held.{body-asked, held-went, body-room}
 use Rattle.walk.proofs.Cases.{gate-is, gate-holds, gate-walked, else-holds, none-went, some-walked}
 use Rattle.walk.proofs.Branches.{then-holds, then-over, else-held, else-further, else-walkable, else-ready, then-placed, else-behind, else-over, if-room, if-went}
-use Rattle.walk.proofs.+analyze_stmts+body_stmt+branch+branch_else+for_loop+gate_def+loop_body+while_loop.Proof.Measures.{μ-analyze-stmts, μ-body-stmt, μ-branch, μ-branch-else, μ-for-loop, μ-gate-def, μ-loop-body, μ-while-loop, analyze-stmts-at, analyze-stmts-below, body-stmt-at, body-stmt-below, branch-at, branch-below, branch-else-at, branch-else-below, gate-def-at, gate-def-below, for-loop-below, while-loop-below}
+use Rattle.walk.proofs.+analyze_stmts+body_stmt+branch+branch_else+for_loop+gate_def+loop_body+while_loop.Proof.Descent.{μ-analyze-stmts, μ-body-stmt, μ-branch, μ-branch-else, μ-for-loop, μ-gate-def, μ-loop-body, μ-while-loop, analyze-stmts-at, analyze-stmts-below, body-stmt-at, body-stmt-below, branch-at, branch-below, branch-else-at, branch-else-below, gate-def-at, gate-def-below, for-loop-below, while-loop-below}
 use Rattle.walk.proofs.+analyze_stmts+body_stmt+branch+branch_else+for_loop+gate_def+loop_body+while_loop.Proof.LoopBodies.{loop-body-closed, for-loop-closed, while-loop-closed}
 use borrow.Author.Needs.{needs}
 use Rattle.walk.proofs.analyze_stmts.Reads as analyze-stmts
@@ -163,7 +163,6 @@ module _ (t : ℕ) where
       let p = s .pre .1 in
       let m = c .before .before .before .before .before .before .before .before .before .before .before .moved .ensures in
       let g = opened-moved (s .args .st) _ (c .before .before .before .before .before .before .before .before .before .before .before .before .before .before .before .before .open-gate .ensures (s .args .st .marks)) _ m in
-      let k = ap (λ (x : State). x .keys) m in
       let v = c .before .before .before .before .before .before .before .analyze-stmts .ensures in
       omega (arith, body-room _ _ _ (gate-is _ _ _ (p .0 .2) (p .0 .4)) (p .0 .2) _ (g .at), v .walked (within (v .added) (c .before .if1 .left)) .at, p .0 .0 .small)
 
@@ -297,7 +296,6 @@ module _ (t : ℕ) where
   branch-else-returns-2 c =
       let s = c .before .before .before .before .before .before .before .before .before .before .before .before .before .before .before .before .before .before .before .before in
       let p = s .pre .1 .0 in
-      let q = s .pre .1 .1 in
       let st : State = entryOf (s .args .t) (s .args .entry .now) in
       let i : State = record { at = st .at + 1; sink = st .sink; keys = st .keys; marks = st .marks } in
       let o : (t : List Text) (x : List ℕ) → ElseOpened t (s .args .left) st _ x i _ x = λ t x. (record { at = refl; marks = refl; emitted = emitted-none (p .1 .fits); becomes = c .before .before .before .before .before .before .before .before .before .before .before .before .before .enter .ensures }) in
@@ -315,7 +313,7 @@ module _ (t : ℕ) where
       let h = else-holds _ _ _ (p .4) (p .3) (c .before .before .before .before .before .before .before .before .before .before .before .before .before .before .before .before .before .before .before .if1 .left) in
       let v = c .before .before .before .before .before .before .before .before .before .analyze-stmts .ensures in
       let u = c .unite2 .ensures in
-      held-went _ _ (p .5) h (o _ []) refl v _ refl (λ f x. some-walked _ _ _ _ _ _ _ _ (p .4) (p .5) (p .3) (c .before .before .before .before .before .before .before .before .before .before .before .before .before .before .before .before .before .before .before .if1 .left) _ _ (o _ _) _ _ _ x _ refl refl (u .0 _ (p .2) (x .placed)) (u .1 .0 _ _)) (λ f b. u .1 .1 _ (blank-grown (body-grown _ _ _) (v .added) f (q .1)) b)
+      held-went _ _ (p .5) h (o _ []) refl v _ refl (λ f x. some-walked _ _ _ _ _ _ _ _ (p .4) (p .5) (p .3) (c .before .before .before .before .before .before .before .before .before .before .before .before .before .before .before .before .before .before .before .if1 .left) _ _ (o _ _) _ _ _ x _ refl refl (u .0 _ (p .2) (x .placed)) (u .1 .0 _ _)) (λ f b. u .1 .1 _ (blank-longer (body-longer _ _ _) (v .added) f (q .1)) b)
 
   branch-else-closed : {M : Type 1} → branch-else-lts.Closed branch-else-calls (branch-else-at t) branch-else.Post M
   branch-else-closed =

@@ -2,7 +2,8 @@
 use mathlib.Core.Path.{refl}
 use Rattle.accepted.specs.Bodies.{stmt-in}
 use Rattle.walk.proofs.Plain.{plain-below, plain-other}
-use Rattle.walk.proofs.Steps.{none-added, plain-keys}
+use Rattle.sheet.specs.Table.{none-added}
+use Rattle.walk.proofs.Steps.{plain-keys}
 use borrow.Author.Needs.{needs}
 use Rattle.walk.proofs.keys_with.Statement.{statement}
 use Rattle.walk.proofs.keys_with.Tie as tie

@@ -3,12 +3,12 @@ use Prim.Native.Nat.{ℕ}
 use mathlib.Core.Path.{refl, ap}
 use native.Mathlib.Omega.{arith}
 use Rattle.context.specs.declared.State.{State}
-use Rattle.promises.specs.WentLaws.{within, went-as, body-grown, blank-grown}
+use Rattle.promises.specs.WentLaws.{within, went-as, body-longer, blank-longer}
 use Rattle.accepted.specs.Bodies.{body-in, stmt-left}
 use Rattle.walk.proofs.Enclosed.{opened-moved}
 use Rattle.walk.proofs.Held.{body-asked, held-went, body-room, loop-united}
 use Rattle.walk.proofs.Cases.{for-is, for-holds, for-walked, while-is, while-holds, while-walked}
-use Rattle.walk.proofs.+analyze_stmts+body_stmt+branch+branch_else+for_loop+gate_def+loop_body+while_loop.Proof.Measures.{analyze-stmts-below, loop-body-at, loop-body-below, for-loop-at, while-loop-at}
+use Rattle.walk.proofs.+analyze_stmts+body_stmt+branch+branch_else+for_loop+gate_def+loop_body+while_loop.Proof.Descent.{analyze-stmts-below, loop-body-at, loop-body-below, for-loop-at, while-loop-at}
 use borrow.Author.Needs.{needs}
 use Rattle.walk.proofs.analyze_stmts.Reads as analyze-stmts
 use Rattle.walk.proofs.loop_body.Reads as loop-body
@@ -30,7 +30,7 @@ module _ (t : ℕ) where
       let p = c .before .before .before .before .before .before .before .before .before .before .before .before .before .before .before .before .pre .1 in
       let v = c .before .before .before .before .before .before .before .before .before .analyze-stmts .ensures in
       let u = c .unite .ensures in
-      went-as v _ refl (λ f x. loop-united _ _ _ _ _ x _ refl refl (u .0 _ (p .0 .1 .placed) (x .placed)) (u .1 .0 _ _)) (λ f b. u .1 .1 _ (blank-grown (body-grown _ _ _) (v .added) f (p .1 .0)) b)
+      went-as v _ refl (λ f x. loop-united _ _ _ _ _ x _ refl refl (u .0 _ (p .0 .1 .placed) (x .placed)) (u .1 .0 _ _)) (λ f b. u .1 .1 _ (blank-longer (body-longer _ _ _) (v .added) f (p .1 .0)) b)
 
   pub loop-body-closed : {M : Type 1} → loop-body-lts.Closed loop-body-calls (loop-body-at t) loop-body.Post M
   loop-body-closed =

@@ -1,5 +1,5 @@
--- The cycle of statements and bodies: the remaining bytes of the tree fall with each call. Doubled, and one more for a call that stays at its
--- place. What each function is given at the measure t, and what a call of it asks below t. Assumes nothing.
+-- The cycle of statements and bodies: the remaining bytes of the tree fall, doubled; `body_stmt` and `loop_body`, which call at their own place,
+-- have one more. What each function is given at the measure t, and what a call of it asks below t. Assumes nothing.
 use Prim.Native.Nat.{ℕ, _<_, _+_, _-_, _*_}
 use mathlib.Core.Path.{_≡_}
 use lib.ListN.{length}
