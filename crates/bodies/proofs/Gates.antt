@@ -29,7 +29,6 @@ use Rattle.promises.specs.Emitted.{Emitted, emitted-none, emitted-report}
 use Rattle.bodies.specs.declared.gate_defs.GateParts.{GateParts}
 use Rattle.bodies.specs.Opened.{gateQubits, gateKnown, GateOpened}
 use Rattle.bodies.specs.Parts.{GatePartsOf, GateEntered}
-use Rattle.promises.specs.Walks.{stateOf}
 
 -- the parts as they are read
 pub parts-of : (tree : List ℕ) (left at x k m n : ℕ) (sp : Span) → IsOk (stmt (textsOf tree) left tree at) → getD tree at 0 ≡ 6 → x ≡ numberAt 2 tree (at + 1) → k ≡ gateQubits tree left at → m ≡ nextOf (vec (name (textsOf tree)) tree k) → n ≡ nextOf (body (stmt (textsOf tree) (left - 1)) tree m) → sp ≡ spanAt tree n → GatePartsOf tree left at (record { name = x; «qubits_at» = k; «body_at» = m; span = sp })
@@ -61,9 +60,10 @@ gate-entered s u v depth x p q params qparams sp p-is q-is l g e =
       same-rest = e .same-rest ∙ d .same-rest;
     }
 
-pub gate-opened : (tree : List ℕ) (left : ℕ) (st : State) (s o s′ o′ : List ℕ) (r : GateParts) (sink : Sink) → GatePartsOf tree left (st .at) r → Emitted (textsOf tree) (gateKnown (gatesOf s) (r .name) (r .span)) (st .sink) o sink o′ → GateEntered s s′ (9 - left) (r .name) (valueOr [] (vec (name (textsOf tree)) tree (st .at + 3))) (valueOr [] (vec (name (textsOf tree)) tree (r .«qubits_at»))) (r .span) → GateOpened tree left st s o (stateOf (r .«body_at») sink (st .marks)) s′ o′
+pub gate-opened : (tree : List ℕ) (left : ℕ) (st : State) (s o s′ o′ : List ℕ) (r : GateParts) (sink : Sink) → GatePartsOf tree left (st .at) r → Emitted (textsOf tree) (gateKnown (gatesOf s) (r .name) (r .span)) (st .sink) o sink o′ → GateEntered s s′ (9 - left) (r .name) (valueOr [] (vec (name (textsOf tree)) tree (st .at + 3))) (valueOr [] (vec (name (textsOf tree)) tree (r .«qubits_at»))) (r .span) → GateOpened tree left st s o (record { at = r .«body_at»; sink = sink; keys = st .keys; marks = st .marks }) s′ o′
 gate-opened tree left st s o s′ o′ r sink p e b = record {
   at = p .body-is;
+  keys = refl;
   marks = refl;
   emitted = rw (← p .span-is, ← p .name-is) e;
   becomes = rw (← p .span-is, ← p .qubits-are, ← p .name-is) b;

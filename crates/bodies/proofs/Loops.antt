@@ -37,7 +37,6 @@ use Rattle.promises.specs.Typings.{SaidOf, plainContext}
 use Rattle.bodies.specs.declared.for_loops.ForParts.{ForParts}
 use Rattle.bodies.specs.Opened.{forBody, ForOpened}
 use Rattle.bodies.specs.Parts.{ForPartsOf, isInt, variableSays, boundsSay}
-use Rattle.promises.specs.Walks.{stateOf}
 
 pub range-in : (t : List Text) (s : List ℕ) (at : ℕ) → IsOk (forRange t s at) → at < length s
 range-in t s at h = expr-in t 32 s at (forRange-start t s at h)
@@ -100,9 +99,10 @@ module _ (ss : Symbols) (fs : Table FunctionSig) (t : List Text) (s : List ℕ) 
           given-ok blankRange [] (λ range. rangeSays (plainContext ss fs) ty range sp) (forRange t s at) h,
         )
 
-pub for-opened : (tree : List ℕ) (left : ℕ) (st : State) (s o o₁ s′ o′ : List ℕ) (r : ForParts) (sink₁ sink : Sink) → IsOk (forRange (textsOf tree) tree (st .at + 4)) → ForPartsOf tree left (st .at) r → Emitted (textsOf tree) (variableSays (r .ty) (r .span)) (st .sink) o sink₁ o₁ → Emitted (textsOf tree) (given [] (boundsSay (plainContext (scopesOf s (9 - left)) (functionsOf s))) (forRange (textsOf tree) tree (st .at + 4))) sink₁ o₁ sink o′ → Becomes s s′ (suc (9 - left)) (loopScope (r .name) (r .ty) (r .span) ∷ scopesOf s (9 - left)) (gatesOf s) (functionsOf s) → ForOpened tree left st s o (stateOf (r .«body_at») sink (st .marks)) s′ o′
+pub for-opened : (tree : List ℕ) (left : ℕ) (st : State) (s o o₁ s′ o′ : List ℕ) (r : ForParts) (sink₁ sink : Sink) → IsOk (forRange (textsOf tree) tree (st .at + 4)) → ForPartsOf tree left (st .at) r → Emitted (textsOf tree) (variableSays (r .ty) (r .span)) (st .sink) o sink₁ o₁ → Emitted (textsOf tree) (given [] (boundsSay (plainContext (scopesOf s (9 - left)) (functionsOf s))) (forRange (textsOf tree) tree (st .at + 4))) sink₁ o₁ sink o′ → Becomes s s′ (suc (9 - left)) (loopScope (r .name) (r .ty) (r .span) ∷ scopesOf s (9 - left)) (gatesOf s) (functionsOf s) → ForOpened tree left st s o (record { at = r .«body_at»; sink = sink; keys = st .keys; marks = st .marks }) s′ o′
 for-opened tree left st s o o₁ s′ o′ r sink₁ sink h p v e b = record {
   at = p .body-is;
+  keys = refl;
   marks = refl;
   emitted = rw (← p .span-is, ← p .type-is) (emitted-as (emitted-then v e) (range-says (scopesOf s (9 - left)) (functionsOf s) (textsOf tree) tree (st .at + 4) h (r .ty) (r .span)));
   becomes = rw (← p .span-is, ← p .type-is, ← p .name-is) b;

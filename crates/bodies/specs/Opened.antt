@@ -27,6 +27,7 @@ use Rattle.promises.specs.Typings.{plainContext}
 
 pub record Opened (t : List Text) (depth : ℕ) (scope : Scope) (gates : Table GateSig) (ds : List Diagnostic) (place : ℕ) (st : State) (s o : List ℕ) (r : State) (s′ o′ : List ℕ) : Type 0 where
   pub at : r .at ≡ place
+  pub keys : r .keys ≡ st .keys
   pub marks : r .marks ≡ st .marks
   pub emitted : Emitted t ds (st .sink) o (r .sink) o′
   pub becomes : Becomes s s′ (suc depth) (scope ∷ scopesOf s depth) gates (functionsOf s)

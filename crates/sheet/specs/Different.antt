@@ -1,7 +1,6 @@
 -- No two keys are equal: by the test of the code, and as the laws of the analysis say it. Assumes nothing.
-use mathlib.Core.Path.{_≡_, subst}
+use mathlib.Core.Path.{subst}
 use mathlib.Core.List.{List, [], _∷_}
-use mathlib.Core.Bool.{true, false}
 use lib.Dec.{T}
 use Rattle.sema.specs.Marks.{Key}
 use Rattle.sema.specs.Keys.{hasKey}

@@ -3,7 +3,9 @@ use Prim.Native.Nat.{ℕ, suc, _-_, _≤_, _<_}
 use mathlib.Core.Path.{_≡_, refl, sym, ap, subst, _∙_}
 use mathlib.Core.List.{List, _∷_, _++_}
 use native.Mathlib.Omega.{arith}
+use lib.ListN.{length}
 use Rattle.ast.specs.Tree.{Text, noStmt, Else, noElse, someElse}
+use Rattle.tree.specs.Limits.{fileLimit}
 use Rattle.tree.specs.Ans.{nextOf, IsOk}
 use Rattle.tree.specs.Stmts.{body, stmt}
 use Rattle.tree.specs.Decode.{textsOf}
@@ -13,11 +15,13 @@ use Rattle.sema.specs.Marks.{Key, Marks}
 use Rattle.sema.specs.Stmts.{SemaContext, leave, analyzeStmts, analyzeElse}
 use Rattle.context.specs.declared.After.{After}
 use Rattle.context.specs.declared.State.{State}
-use Rattle.context.specs.View.{Placed, keysIn, scopesOf, functionsOf, marksOf, contextOf}
+use Rattle.context.specs.Sink.{SinkFits}
+use Rattle.context.specs.View.{TextsAt, Placed, keysIn, scopesOf, functionsOf, marksOf, contextOf}
 use Rattle.tables.specs.Laws.{few-after}
 use Rattle.accepted.specs.Parts.{valueOr, given-ok}
 use Rattle.scopes.specs.Laws.{entered-below}
 use Rattle.promises.specs.Emitted.{emitted-then, emitted-as}
+use Rattle.promises.specs.Went.{StmtAsked}
 use Rattle.promises.specs.Walks.{stateOf, Ready, Walk, Walked, walkBody}
 use Rattle.promises.specs.WalkLaws.{context-is, walked-as}
 use Rattle.bodies.specs.Opened.{Opened}
@@ -26,10 +30,16 @@ use Rattle.walk.specs.Bodies.{movedTo}
 pub level : (left : ℕ) → 0 < left → left ≤ 8 → 9 - (left - 1) ≡ suc (9 - left)
 level left a b = omega arith
 
--- the body opened, whatever the keys, and the state moved there
-pub opened-moved : {t : List Text} {depth : ℕ} {scope : Scope} {gates : Table GateSig} {ds : List Diagnostic} {place : ℕ} (st : State) (a : After) {s o s′ o′ : List ℕ} → Opened t depth scope gates ds place (stateOf (st .at) (st .sink) (st .marks)) s o (stateOf (a .next) (a .sink) (st .marks)) s′ o′
+-- what is asked before a body
+pub open-asked : {tree index : List ℕ} {left : ℕ} {st : State} {s : List ℕ} {case : Type 0} → StmtAsked tree index left st s × case
+    → TextsAt tree index × (length tree ≤ fileLimit) × (65536 ≤ length s) × SinkFits (st .sink) × IsOk (stmt (textsOf tree) left tree (st .at)) × (left ≤ 8) × case
+open-asked a = let p = a .0 in (p .walkable .texts, p .walkable .small, p .ready .room, p .ready .fits, p .accepted, p .shallow, a .1)
+
+-- the body opened, whatever the marks, and the state moved there
+pub opened-moved : {t : List Text} {depth : ℕ} {scope : Scope} {gates : Table GateSig} {ds : List Diagnostic} {place : ℕ} (st : State) (a : After) {s o s′ o′ : List ℕ}
+    → ((marks : List ℕ) → Opened t depth scope gates ds place (stateOf (st .at) (st .sink) marks) s o (stateOf (a .next) (a .sink) marks) s′ o′)
     → (r : State) → r ≡ movedTo st a → Opened t depth scope gates ds place st s o r s′ o′
-opened-moved st a p r e = rw e (record { at = p .at; marks = refl; emitted = p .emitted; becomes = p .becomes })
+opened-moved st a o r e = let p = o (st .marks) in rw e (record { at = p .at; keys = refl; marks = refl; emitted = p .emitted; becomes = p .becomes })
 
 -- the body opened
 module _ {t : List Text} {depth : ℕ} {scope : Scope} {gates : Table GateSig} {ds : List Diagnostic} {place : ℕ} {st : State} {s o : List ℕ} {i : State} {s′ o′ : List ℕ} (p : Opened t depth scope gates ds place st s o i s′ o′) where

@@ -21,7 +21,7 @@ use Rattle.accepted.specs.Parts.{given-is}
 use Rattle.accepted.specs.Stmts as of
 use Rattle.sheet.specs.Sheet.{KeysAdded}
 use Rattle.sheet.specs.Behind.{Blank}
-use Rattle.promises.specs.Walks.{stateOf, Walkable, StmtKeyed, StmtWalked}
+use Rattle.promises.specs.Walks.{stateOf, Walkable, Ready, StmtKeyed, StmtWalked}
 use Rattle.promises.specs.Went.{stmtKeys, StmtWent}
 use Rattle.promises.specs.WentLaws.{Longer, stmt-longer, walked-at, walkable-longer, blank-longer}
 
@@ -44,6 +44,10 @@ plain-keys tree left at h u m o ss ks = go (getD tree at 0) refl
     go (suc (suc (suc (suc (suc (suc (suc (suc (suc (suc zero)))))))))) b = given-is (of.barrier-is (textsOf tree) left tree at h b _ refl) ks (λ a. keysStmt a ss ks)
     go (suc (suc (suc (suc (suc (suc (suc (suc (suc (suc (suc zero))))))))))) b = given-is (of.delay-is (textsOf tree) left tree at h b _ refl _ refl) ks (λ a. keysStmt a ss ks)
     go (suc (suc (suc (suc (suc (suc (suc (suc (suc (suc (suc (suc c)))))))))))) b = absurd (omega arith)
+
+-- the sink and the marks alone play a part
+pub ready-of : {tree s : List ℕ} {st : State} → Ready tree s st → Ready tree s (stateOf (st .at) (st .sink) (st .marks))
+ready-of h = record { room = h .room; few = h .few; placed = h .placed; fits = h .fits }
 
 module _ (tree : List ℕ) (left : ℕ) (st : State) (i i′ s : List ℕ) (count : ℕ) (a : KeysAdded i i′ count (stmtKeys (stmt (textsOf tree) left tree (st .at)) (scopesOf s (9 - left)) (keysIn i (st .keys)))) (z : length i′ ≡ length i) where
   -- the walk has stopped at the statement

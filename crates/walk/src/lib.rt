@@ -10,17 +10,17 @@ use context::State;
 use sheet::new_keys::OVER;
 ghost use mathlib.Core.Path.{_≡_};
 ghost use mathlib.Core.Bool.{true, false};
-ghost use Prim.Native.Nat.{ℕ, _+_, _-_, _≤_, _<_};
+ghost use Prim.Native.Nat.{ℕ, _-_, _≤_};
 ghost use lib.ListN.{length, getD};
-ghost use Rattle.tree.specs.Ans.{IsOk, nextOf};
-ghost use Rattle.tree.specs.Stmts.{stmt, body, elseBody};
+ghost use Rattle.tree.specs.Ans.{IsOk};
+ghost use Rattle.tree.specs.Stmts.{stmt};
 ghost use Rattle.tree.specs.Decode.{textsOf};
-ghost use Rattle.context.specs.View.{Placed, keysIn, scopesOf};
+ghost use Rattle.context.specs.View.{keysIn, scopesOf};
 ghost use Rattle.sheet.specs.Sheet.{KeysAdded};
 ghost use Rattle.sheet.specs.Behind.{Blank};
 ghost use Rattle.promises.specs.Walks.{stateOf, Walkable, Ready, StmtKeyed, StmtWalked};
-ghost use Rattle.promises.specs.Went.{stmtKeys, StmtWent, BodyWent};
-ghost use Rattle.walk.specs.Bodies.{movedTo, entryOf, isPlain, LoopWent, ElseWent};
+ghost use Rattle.promises.specs.Went.{stmtKeys, StmtAsked, BodyAsked, StmtWent, BodyWent};
+ghost use Rattle.walk.specs.Bodies.{movedTo, isPlain, LoopAsked, ElseAsked, LoopWent, ElseWent};
 
 // What a statement without statements in it leaves beside the marks: the place past it, the listing, how many keys there are. Where they
 // are too many, its own place.
@@ -49,8 +49,7 @@ fn gate_def(
     left: usize,
     st: State,
 ) -> State
-    requires { ⌜ Walkable (now tree) (now index) (st .keys) × Ready (now tree) (now scratch) st × IsOk (stmt (textsOf (now tree)) left (now tree) (st .at)) × (left ≤ 8) × (getD (now tree) (st .at) 0 ≡ 6) ⌝ }
-    requires { ⌜ Blank (st .keys) (st .marks) ⌝ }
+    requires { ⌜ StmtAsked (now tree) (now index) left st (now scratch) × (getD (now tree) (st .at) 0 ≡ 6) ⌝ }
     ensures { λ r. ⌜ StmtWent (now (tree .entry)) left st (now (index .entry)) (now (scratch .entry)) (now (out .entry)) r (now (index .exit)) (now (scratch .exit)) (now (out .exit)) ⌝ }
 {
     let a = bodies::open_gate(tree, index, scratch, out, left, st.at, st.sink);
@@ -71,8 +70,7 @@ fn branch(
     left: usize,
     st: State,
 ) -> State
-    requires { ⌜ Walkable (now tree) (now index) (st .keys) × Ready (now tree) (now scratch) st × IsOk (stmt (textsOf (now tree)) left (now tree) (st .at)) × (left ≤ 8) × (getD (now tree) (st .at) 0 ≡ 12) ⌝ }
-    requires { ⌜ Blank (st .keys) (st .marks) ⌝ }
+    requires { ⌜ StmtAsked (now tree) (now index) left st (now scratch) × (getD (now tree) (st .at) 0 ≡ 12) ⌝ }
     ensures { λ r. ⌜ StmtWent (now (tree .entry)) left st (now (index .entry)) (now (scratch .entry)) (now (out .entry)) r (now (index .exit)) (now (scratch .exit)) (now (out .exit)) ⌝ }
 {
     let a = bodies::open_if(tree, index, scratch, out, left, st.at, st.sink);
@@ -99,8 +97,7 @@ fn branch_else(
     entry: &[u16; 256],
     t: State,
 ) -> State
-    requires { ⌜ Walkable (now tree) (now index) (t .keys) × Ready (now tree) (now scratch) (entryOf t (now entry)) × Placed (now tree) (t .marks) × IsOk (elseBody (stmt (textsOf (now tree)) (left - 1)) (now tree) (t .at)) × (0 < left) × (left ≤ 8) ⌝ }
-    requires { ⌜ Blank (t .keys) (now entry) × Blank (t .keys) (t .marks) ⌝ }
+    requires { ⌜ ElseAsked (now tree) (now index) left (now entry) t (now scratch) ⌝ }
     ensures { λ r. ⌜ ElseWent (now (tree .entry)) left (now (entry .entry)) t (now (index .entry)) (now (scratch .entry)) (now (out .entry)) r (now (index .exit)) (now (scratch .exit)) (now (out .exit)) ⌝ }
 {
     let k = t.at;
@@ -135,8 +132,7 @@ fn for_loop(
     left: usize,
     st: State,
 ) -> State
-    requires { ⌜ Walkable (now tree) (now index) (st .keys) × Ready (now tree) (now scratch) st × IsOk (stmt (textsOf (now tree)) left (now tree) (st .at)) × (left ≤ 8) × (getD (now tree) (st .at) 0 ≡ 13) ⌝ }
-    requires { ⌜ Blank (st .keys) (st .marks) ⌝ }
+    requires { ⌜ StmtAsked (now tree) (now index) left st (now scratch) × (getD (now tree) (st .at) 0 ≡ 13) ⌝ }
     ensures { λ r. ⌜ StmtWent (now (tree .entry)) left st (now (index .entry)) (now (scratch .entry)) (now (out .entry)) r (now (index .exit)) (now (scratch .exit)) (now (out .exit)) ⌝ }
 {
     let a = bodies::open_for(tree, index, scratch, out, left, st.at, st.sink);
@@ -152,8 +148,7 @@ fn while_loop(
     left: usize,
     st: State,
 ) -> State
-    requires { ⌜ Walkable (now tree) (now index) (st .keys) × Ready (now tree) (now scratch) st × IsOk (stmt (textsOf (now tree)) left (now tree) (st .at)) × (left ≤ 8) × (getD (now tree) (st .at) 0 ≡ 14) ⌝ }
-    requires { ⌜ Blank (st .keys) (st .marks) ⌝ }
+    requires { ⌜ StmtAsked (now tree) (now index) left st (now scratch) × (getD (now tree) (st .at) 0 ≡ 14) ⌝ }
     ensures { λ r. ⌜ StmtWent (now (tree .entry)) left st (now (index .entry)) (now (scratch .entry)) (now (out .entry)) r (now (index .exit)) (now (scratch .exit)) (now (out .exit)) ⌝ }
 {
     let a = bodies::open_while(tree, index, scratch, out, left, st.at, st.sink);
@@ -170,9 +165,7 @@ fn loop_body(
     left: usize,
     st: State,
 ) -> State
-    requires { ⌜ Walkable (now tree) (now index) (st .keys) × Ready (now tree) (now scratch) st × IsOk (body (stmt (textsOf (now tree)) left) (now tree) (st .at)) × (left ≤ 8) ⌝ }
-    requires { ⌜ Blank (st .keys) (st .marks) ⌝ }
-    requires { ⌜ nextOf (body (stmt (textsOf (now tree)) left) (now tree) (st .at)) + 8 ≤ length (now tree) ⌝ }
+    requires { ⌜ LoopAsked (now tree) (now index) left st (now scratch) ⌝ }
     ensures { λ r. ⌜ LoopWent (now (tree .entry)) left st (now (index .entry)) (now (scratch .entry)) (now (out .entry)) r (now (index .exit)) (now (scratch .exit)) (now (out .exit)) ⌝ }
 {
     let mut r = analyze_stmts(tree, index, scratch, out, left, st);
@@ -257,8 +250,7 @@ fn keyed_stmt(
     at: usize,
     sink: Sink,
 ) -> Step
-    requires { ⌜ Walkable (now tree) (now index) keys × Ready (now tree) (now scratch) (stateOf at sink (now marks)) × IsOk (stmt (textsOf (now tree)) left (now tree) at) × (left ≤ 8) × (isPlain (getD (now tree) at 0) ≡ true) ⌝ }
-    requires { ⌜ Blank keys (now marks) ⌝ }
+    requires { ⌜ StmtAsked (now tree) (now index) left (record { at = at; sink = sink; keys = keys; marks = now marks }) (now scratch) × (isPlain (getD (now tree) at 0) ≡ true) ⌝ }
     ensures { λ r. ⌜ StmtWent (now (tree .entry)) left (record { at = at; sink = sink; keys = keys; marks = now (marks .entry) }) (now (index .entry)) (now (scratch .entry)) (now (out .entry)) (record { at = r .next; sink = r .sink; keys = r .keys; marks = now (marks .exit) }) (now (index .exit)) (now (scratch .exit)) (now (out .exit)) ⌝ }
 {
     let count = keys_with(tree, index, scratch, keys, left, at);
@@ -287,8 +279,7 @@ fn body_stmt(
     left: usize,
     st: State,
 ) -> State
-    requires { ⌜ Walkable (now tree) (now index) (st .keys) × Ready (now tree) (now scratch) st × IsOk (stmt (textsOf (now tree)) left (now tree) (st .at)) × (left ≤ 8) × (isPlain (getD (now tree) (st .at) 0) ≡ false) ⌝ }
-    requires { ⌜ Blank (st .keys) (st .marks) ⌝ }
+    requires { ⌜ StmtAsked (now tree) (now index) left st (now scratch) × (isPlain (getD (now tree) (st .at) 0) ≡ false) ⌝ }
     ensures { λ r. ⌜ StmtWent (now (tree .entry)) left st (now (index .entry)) (now (scratch .entry)) (now (out .entry)) r (now (index .exit)) (now (scratch .exit)) (now (out .exit)) ⌝ }
 {
     let at = st.at;
@@ -309,8 +300,7 @@ pub fn analyze_stmts(
     left: usize,
     st: State,
 ) -> State
-    requires { ⌜ Walkable (now tree) (now index) (st .keys) × Ready (now tree) (now scratch) st × IsOk (body (stmt (textsOf (now tree)) left) (now tree) (st .at)) × (left ≤ 8) ⌝ }
-    requires { ⌜ Blank (st .keys) (st .marks) ⌝ }
+    requires { ⌜ BodyAsked (now tree) (now index) left st (now scratch) ⌝ }
     ensures { λ r. ⌜ BodyWent (now (tree .entry)) left st (now (index .entry)) (now (scratch .entry)) (now (out .entry)) r (now (index .exit)) (now (scratch .exit)) (now (out .exit)) ⌝ }
 {
     let at = st.at;

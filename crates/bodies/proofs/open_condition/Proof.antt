@@ -26,4 +26,4 @@ open-condition-spec =
     (λ c κs. search needs)  -- enter-requires
     (λ c. search needs)  -- same-length
     (λ c. search needs)  -- same-length-2
-    (λ c marks. let t = c .before .before .before .before .before .before .require-type .ensures in record { at = t .next; marks = refl; emitted = t .emitted; becomes = c .before .before .enter .ensures }))  -- returns
+    (λ c marks. let t = c .before .before .before .before .before .before .require-type .ensures in record { at = t .next; keys = refl; marks = refl; emitted = t .emitted; becomes = c .before .before .enter .ensures }))  -- returns

@@ -2,7 +2,7 @@
 use mathlib.Core.Path.{refl}
 use Rattle.context.specs.declared.State.{State}
 use Rattle.promises.specs.WentLaws.{within}
-use Rattle.walk.proofs.Steps.{step-over, step-walkable, step-keyed, step-went}
+use Rattle.walk.proofs.Steps.{ready-of, step-over, step-walkable, step-keyed, step-went}
 use borrow.Author.Needs.{needs}
 use Rattle.walk.proofs.keyed_stmt.Statement.{statement}
 use Rattle.walk.proofs.keyed_stmt.Tie as tie
@@ -15,12 +15,12 @@ returns c =
 
 plain-stmt-requires : tie.Need-plain-stmt-requires
 plain-stmt-requires c κs =
-    let p = c .before .before .before .before .before .before .before .before .before .before .before .pre .0 in
+    let p = c .before .before .before .before .before .before .before .before .before .before .before .pre in
     let a = c .before .before .before .before .before .before .before .before .before .before .before .args in
     let st : State = record { at = a .at; sink = a .sink; keys = a .keys; marks = a .marks .now } in
     let k = c .before .before .before .before .before .keys-with .ensures in
     let few = within (k .0) (c .before .before .before .before .if1 .left) in
-    ((step-walkable _ _ st _ _ _ _ (k .0) (k .1) few (p .0), p .1, p .2, p .3, p .4), step-keyed _ _ st _ _ _ _ (k .0) (k .1) few)
+    ((step-walkable _ _ st _ _ _ _ (k .0) (k .1) few (p .0 .walkable), ready-of (p .0 .ready), p .0 .accepted, p .0 .shallow, p .1), step-keyed _ _ st _ _ _ _ (k .0) (k .1) few)
 
 returns-2 : tie.Need-returns-2
 returns-2 c =
@@ -29,12 +29,12 @@ returns-2 c =
     let k = c .before .before .before .before .before .before .before .before .before .before .before .keys-with .ensures in
     let few = within (k .0) (c .before .before .before .before .before .before .before .before .before .before .if1 .left) in
     let w = c .before .before .before .before .before .plain-stmt .ensures in
-    step-went _ _ (record { at = a .at; sink = a .sink; keys = a .keys; marks = a .marks .now }) _ _ _ _ (k .0) (k .1) few _ refl (p .1) (w .0) (w .1)
+    step-went _ _ (record { at = a .at; sink = a .sink; keys = a .keys; marks = a .marks .now }) _ _ _ _ (k .0) (k .1) few _ refl (p .0 .blank) (w .0) (w .1)
 
 pub keyed-stmt-spec : {M : Type 1} → statement M
 keyed-stmt-spec =
     tie.close (tie.spec
-    (λ c κs. let p = c .before .before .before .before .before .pre .0 in (p .0, p .1 .room, p .2, p .3, p .4))  -- keys-with-requires
+    (λ c κs. let p = c .before .before .before .before .before .pre in (p .0 .walkable, p .0 .ready .room, p .0 .accepted, p .0 .shallow, p .1))  -- keys-with-requires
     (λ c. search needs)  -- same-length
     returns
     plain-stmt-requires
