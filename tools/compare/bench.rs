@@ -1,11 +1,11 @@
 //! How long the checker and sema.rs take on the same trees, in one run.
 
 use crate::bench_trees::{self, Sized};
-use crate::{ast, checker, convert, decode, oracle, reader, sema};
+use crate::{ast, checker, convert, decode, oracle, sema};
 use std::hint::black_box;
 use std::time::Instant;
 
-const ROUNDS: usize = 9;
+const ROUNDS: usize = 31;
 /// A round repeats a call until it took so long.
 const ROUND_NANOS: f64 = 400_000.0;
 
@@ -56,15 +56,15 @@ fn measure(calls: &mut [&mut dyn FnMut()]) -> Vec<f64> {
     all.into_iter().map(median).collect()
 }
 
-/// Validation and decoding, `analyze` and the listing.
+/// Reading, with the refusals, `analyze` and the listing.
 fn from_bytes(bytes: &[u8]) -> String {
-    assert!(reader::read(bytes).is_ok());
-    let program = convert::program(&decode::tree(bytes));
+    let program = decode::program(bytes).expect("an accepted file");
     oracle::listing(&oracle::by_rust(&program))
 }
 
 fn time(case: &Sized, scratch: &mut [u8], listing: &mut [u8]) -> Times {
     let program: ast::Program = convert::program(&case.tree);
+    assert_eq!(format!("{program:?}"), format!("{:?}", decode::program(&case.bytes).unwrap()));
     let answer = checker::check(&case.bytes, scratch, listing);
     assert!(matches!(answer, checker::Answer::Accepted { .. }), "{}: {answer}", case.name);
     let cut = &case.bytes[..case.bytes.len() - 1];

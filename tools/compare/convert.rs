@@ -15,34 +15,33 @@ fn at(span: &t::Span) -> span::Span {
     span.start as usize..span.end as usize
 }
 
-fn ty(ty: &t::ClassicalType) -> a::ClassicalType {
+pub const TYPES: [a::ClassicalType; 5] = {
     use a::ClassicalType::*;
-    [Int, UInt, Float, Angle, Bool][*ty as usize]
-}
-
-fn qualifier(qualifier: &t::ClassicalQualifier) -> a::ClassicalQualifier {
+    [Int, UInt, Float, Angle, Bool]
+};
+pub const QUALIFIERS: [a::ClassicalQualifier; 3] = {
     use a::ClassicalQualifier::*;
-    [Const, Input, Output][*qualifier as usize]
-}
-
-fn assign_op(op: &t::AssignOp) -> a::AssignOp {
+    [Const, Input, Output]
+};
+pub const ASSIGN_OPS: [a::AssignOp; 3] = {
     use a::AssignOp::*;
-    [Assign, AddAssign, SubAssign][*op as usize]
-}
-
-fn bin_op(op: &t::BinOp) -> a::BinOp {
+    [Assign, AddAssign, SubAssign]
+};
+pub const BIN_OPS: [a::BinOp; 5] = {
     use a::BinOp::*;
-    [Add, Sub, Mul, Div, Pow][*op as usize]
-}
-
-fn compare_op(op: &t::CompareOp) -> a::CompareOp {
+    [Add, Sub, Mul, Div, Pow]
+};
+pub const COMPARE_OPS: [a::CompareOp; 6] = {
     use a::CompareOp::*;
-    [Eq, Ne, Lt, Le, Gt, Ge][*op as usize]
-}
-
-fn constant(kind: &t::ConstKind) -> a::ConstKind {
+    [Eq, Ne, Lt, Le, Gt, Ge]
+};
+pub const CONSTANTS: [a::ConstKind; 3] = {
     use a::ConstKind::*;
-    [Pi, Tau, Euler][*kind as usize]
+    [Pi, Tau, Euler]
+};
+
+fn ty(ty: &t::ClassicalType) -> a::ClassicalType {
+    TYPES[*ty as usize]
 }
 
 impl Texts<'_> {
@@ -104,13 +103,13 @@ impl Texts<'_> {
             t::Expr::Call { name, args, span } => {
                 Call { name: self.text(name), args: self.exprs(args), span: at(span) }
             }
-            t::Expr::Const(kind, s) => Const(constant(kind), at(s)),
+            t::Expr::Const(kind, s) => Const(CONSTANTS[*kind as usize], at(s)),
             t::Expr::Neg(inner, s) => Neg(part(inner), at(s)),
             t::Expr::BinOp { op, lhs, rhs, span } => {
-                BinOp { op: bin_op(op), lhs: part(lhs), rhs: part(rhs), span: at(span) }
+                BinOp { op: BIN_OPS[*op as usize], lhs: part(lhs), rhs: part(rhs), span: at(span) }
             }
             t::Expr::Compare { op, lhs, rhs, span } => {
-                Compare { op: compare_op(op), lhs: part(lhs), rhs: part(rhs), span: at(span) }
+                Compare { op: COMPARE_OPS[*op as usize], lhs: part(lhs), rhs: part(rhs), span: at(span) }
             }
         }
     }
@@ -126,7 +125,7 @@ impl Texts<'_> {
                 BitDecl { name: self.text(name), size: *size, span: at(span) }
             }
             t::Stmt::ClassicalDecl { qualifier: q, ty: of, name, init, span } => ClassicalDecl {
-                qualifier: q.as_ref().map(qualifier),
+                qualifier: q.as_ref().map(|q| QUALIFIERS[*q as usize]),
                 ty: ty(of),
                 name: self.text(name),
                 init: self.maybe(init),
@@ -134,7 +133,7 @@ impl Texts<'_> {
             },
             t::Stmt::Assignment { name, op, value, span } => Assignment {
                 name: self.text(name),
-                op: assign_op(op),
+                op: ASSIGN_OPS[*op as usize],
                 value: self.expr(value),
                 span: at(span),
             },

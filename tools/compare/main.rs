@@ -1,24 +1,12 @@
 //! Makes trees, gives them to the checker and to sema.rs, and compares.
 
-#[path = "../../target/qasm/ast.rs"]
-#[allow(dead_code)]
-mod ast;
-#[path = "../tree_cases/reader.rs"]
-mod reader;
-#[path = "../../target/qasm/sema.rs"]
-#[allow(dead_code)]
-mod sema;
+#[path = "../output.rs"]
+mod output;
+#[path = "../qasm.rs"]
+mod qasm;
 #[path = "../../target/qasm/sema_wide.rs"]
 #[allow(dead_code)]
 mod sema_wide;
-#[path = "../../target/qasm/span.rs"]
-#[allow(dead_code)]
-mod span;
-#[path = "../tree_cases/tree.rs"]
-mod tree;
-#[path = "../tree_cases/writer.rs"]
-#[allow(dead_code)]
-mod writer;
 
 mod bench;
 mod bench_trees;
@@ -45,7 +33,8 @@ mod tables;
 mod values;
 mod wide;
 
-use std::io::Write;
+use output::measured;
+use qasm::{ast, reader, sema, span, tree, writer};
 
 const USAGE: &str = "usage: compare run N SEED [THREADS], every N SEED, show SEED NUMBER, bench SEED,
        cases | expected N SEED [FILE ..]";
@@ -66,15 +55,9 @@ fn main() {
             listed(files, *cases, *seed).iter().flat_map(printed).collect()
         }
         (Some("show"), [seed, number]) => shown(*seed, *number),
-        _ => {
-            eprintln!("{USAGE}");
-            std::process::exit(2);
-        }
+        _ => output::usage(USAGE),
     };
-    if let Err(error) = std::io::stdout().write_all(&bytes) {
-        eprintln!("compare: {error}");
-        std::process::exit(1);
-    }
+    output::write("compare", &bytes);
 }
 
 fn ended(status: i32) -> ! {
@@ -89,11 +72,6 @@ fn listed(files: &[String], cases: u64, seed: u64) -> Vec<generate::Case> {
     };
     let generated = (0..cases).map(|number| generate::case(seed, number));
     files.iter().map(of_file).chain(generated).collect()
-}
-
-/// The bytes after their length in four bytes, the highest first.
-fn measured(bytes: &[u8]) -> Vec<u8> {
-    [&(bytes.len() as u32).to_be_bytes()[..], bytes].concat()
 }
 
 fn printed(case: &generate::Case) -> Vec<u8> {

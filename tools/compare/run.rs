@@ -4,7 +4,7 @@ use crate::brute;
 use crate::buffers::{listing_length, Buffers, Wanted, SCRATCH_LENGTHS};
 use crate::coverage::Counts;
 use crate::generate::{case, Case};
-use crate::oracle;
+use crate::{decode, oracle, reader};
 use std::sync::atomic::{AtomicU64, Ordering};
 
 /// Cases that a thread takes at once.
@@ -50,6 +50,9 @@ impl Tally {
         buffers: &mut Buffers,
         turns: &[usize],
     ) -> Result<(), String> {
+        if reader::read(&case.bytes).err() != decode::program(&case.bytes).err() {
+            return Err("decode.rs and reader.rs differ".to_string());
+        }
         let verdict = oracle::verdict(&case.bytes, &case.tree);
         self.counts.add_case(case, &verdict);
         let wanted = Wanted::new(&verdict);

@@ -2,6 +2,7 @@
 //! statement counts, which have no limit of their own.
 
 use crate::cases::{accepted, refused, replaced, Case};
+use crate::levels::{bodies, FIRST};
 use crate::make::*;
 use crate::tree::{ClassicalType, GateModifier, Stmt};
 
@@ -14,42 +15,31 @@ pub fn cases() -> Vec<Case> {
     cases
 }
 
-/// A list with a one-byte count, and where the count stands after the case
-/// byte of its statement.
-struct List {
-    name: &'static str,
-    offset: usize,
-    with: fn(usize) -> Stmt,
-}
-
-/// The one text is `q`, so the first statement's case byte stands at 6.
-const FIRST: usize = 6;
-
-fn lists() -> Vec<List> {
-    let list = |name, offset, with| List { name, offset, with };
+/// The lists with a one-byte count, by where the count stands.
+fn lists() -> Vec<Part<usize>> {
     vec![
         // Case, name.
-        list("modifiers", 3, |n| call(vec![GateModifier::Inv(SPAN); n], vec![], vec![])),
+        part("modifiers", 3, |n| call(vec![GateModifier::Inv(SPAN); n], vec![], vec![])),
         // Case, name, no modifiers.
-        list("gate call params", 4, |n| call(vec![], vec![leaf(); n], vec![])),
+        part("gate call params", 4, |n| call(vec![], vec![leaf(); n], vec![])),
         // Case, name, no modifiers, no params.
-        list("gate call args", 5, |n| call(vec![], vec![], vec![operand(); n])),
+        part("gate call args", 5, |n| call(vec![], vec![], vec![operand(); n])),
         // Case, name.
-        list("gate params", 3, |n| gate(vec![0; n], vec![], vec![])),
+        part("gate params", 3, |n| gate(vec![0; n], vec![], vec![])),
         // Case, name, no params.
-        list("gate qparams", 4, |n| gate(vec![], vec![0; n], vec![])),
+        part("gate qparams", 4, |n| gate(vec![], vec![0; n], vec![])),
         // Case, name.
-        list("function params", 3, |n| function(vec![(ClassicalType::Bool, 0); n], leaf())),
+        part("function params", 3, |n| function(vec![(ClassicalType::Bool, 0); n], leaf())),
         // Case.
-        list("barrier targets", 1, |n| Stmt::Barrier { targets: vec![operand(); n], span: SPAN }),
+        part("barrier targets", 1, |n| Stmt::Barrier { targets: vec![operand(); n], span: SPAN }),
         // Case, duration of 10 bytes.
-        list("delay targets", 11, |n| delay(leaf(), vec![operand(); n])),
+        part("delay targets", 11, |n| delay(leaf(), vec![operand(); n])),
         // Case, name, op, case, name.
-        list("call args", 7, |n| assign(called(vec![leaf(); n]))),
+        part("call args", 7, |n| assign(called(vec![leaf(); n]))),
     ]
 }
 
-fn of_list(list: &List) -> Vec<Case> {
+fn of_list(list: &Part<usize>) -> Vec<Case> {
     let with = |n| tree(&["q"], vec![(list.with)(n)]);
     let name = |what: &str| format!("{} {}", list.name, what);
     let place = FIRST + list.offset;
@@ -71,17 +61,10 @@ fn statement_counts() -> Vec<Case> {
         let bytes = tree(&[], vec![barrier(); count]);
         cases.push(accepted(format!("{count} statements"), bytes));
     }
-    let bodies: [(&str, fn(Vec<Stmt>) -> Stmt); 5] = [
-        ("gate", |body| gate(vec![], vec![], body)),
-        ("then", |body| branch(leaf(), body, None)),
-        ("else", |body| branch(leaf(), vec![], Some(body))),
-        ("for", |body| for_loop(leaf(), leaf(), None, body)),
-        ("while", |body| while_loop(leaf(), body)),
-    ];
-    for (name, with) in bodies {
+    for part in bodies() {
         for count in [0, 1, 2, 16, 17] {
-            let bytes = tree(&["q"], vec![with(vec![barrier(); count])]);
-            cases.push(accepted(format!("{name} body of {count}"), bytes));
+            let bytes = tree(&["q"], vec![(part.with)(vec![barrier(); count])]);
+            cases.push(accepted(format!("{} body of {count}", part.name), bytes));
         }
     }
     let body = |count| tree(&["q"], vec![gate(vec![], vec![], vec![barrier(); count])]);

@@ -5,10 +5,18 @@ use crate::make::*;
 use crate::tree::{Expr, GateModifier, Stmt};
 
 /// The one text is `q`, so the first statement's case byte stands at 6.
-const FIRST: usize = 6;
+pub const FIRST: usize = 6;
 
-const NO_STATEMENT: u8 = 15;
-const NO_EXPRESSION: u8 = 10;
+/// How many levels there are, the last case, and bytes that are no case.
+struct Levels {
+    most: usize,
+    last_case: u8,
+    no_case: u8,
+    no_case_at_end: u8,
+}
+
+const STATEMENTS: Levels = Levels { most: 8, last_case: 14, no_case: 15, no_case_at_end: 15 };
+const EXPRESSIONS: Levels = Levels { most: 32, last_case: 9, no_case: 10, no_case_at_end: 255 };
 
 pub fn cases() -> Vec<Case> {
     let mut cases = vec![];
@@ -27,27 +35,19 @@ pub fn cases() -> Vec<Case> {
     cases
 }
 
-/// A statement with a body, and how far the body's first statement stands
-/// after the statement's case byte.
-struct Body {
-    name: &'static str,
-    step: usize,
-    with: fn(Vec<Stmt>) -> Stmt,
-}
-
-fn bodies() -> Vec<Body> {
-    let body = |name, step, with| Body { name, step, with };
+/// The bodies, by where the first statement stands.
+pub fn bodies() -> Vec<Part<Vec<Stmt>>> {
     vec![
         // Case, name, two counts, body count.
-        body("gate", 7, |body| gate(vec![], vec![], body)),
+        part("gate", 7, |body| gate(vec![], vec![], body)),
         // Case, condition of 10, body count.
-        body("then", 13, |body| branch(leaf(), body, None)),
+        part("then", 13, |body| branch(leaf(), body, None)),
         // Case, condition of 10, body count, flag, body count.
-        body("else", 16, |body| branch(leaf(), vec![], Some(body))),
+        part("else", 16, |body| branch(leaf(), vec![], Some(body))),
         // Case, name, type, start and end of 10, flag, body count.
-        body("for", 27, |body| for_loop(leaf(), leaf(), None, body)),
+        part("for", 27, |body| for_loop(leaf(), leaf(), None, body)),
         // Case, condition of 10, body count.
-        body("while", 13, |body| while_loop(leaf(), body)),
+        part("while", 13, |body| while_loop(leaf(), body)),
     ]
 }
 
@@ -56,24 +56,39 @@ fn nested(with: fn(Vec<Stmt>) -> Stmt, levels: usize) -> Stmt {
     (1..levels).fold(with(vec![]), |inner, _| with(vec![inner]))
 }
 
-fn of_body(body: &Body) -> Vec<Case> {
+/// Trees of the most levels and of one more, whose case byte stands at `place`.
+fn one_more(
+    name: &str,
+    levels: &Levels,
+    with: impl Fn(usize) -> Vec<u8>,
+    place: usize,
+) -> Vec<Case> {
+    let more = levels.most + 1;
+    let name = |level: usize, what: &str| format!("{name} level {level}{what}");
+    let over = with(more);
+    let no_case = replaced(&over, place, &[levels.no_case]);
+    let last_case = replaced(&over, place, &[levels.last_case]);
+    let no_case_at_end = longer(&over[..place], &[levels.no_case_at_end]);
+    vec![
+        accepted(name(levels.most, ""), with(levels.most)),
+        refused(name(more, ""), over.clone(), 6, place),
+        refused(name(more, ", no case"), no_case, 4, place),
+        refused(name(more, ", last case"), last_case, 6, place),
+        refused(name(more, " at the end"), over[..place + 1].to_vec(), 6, place),
+        refused(name(more, ", no case, at the end"), no_case_at_end, 4, place),
+        refused(name(more, " missing"), over[..place].to_vec(), 3, place),
+    ]
+}
+
+fn of_body(body: &Part<Vec<Stmt>>) -> Vec<Case> {
     let name = |what: &str| format!("{} level {}", body.name, what);
-    let place = FIRST + 8 * body.step;
     let nest = |levels| tree(&["q"], vec![nested(body.with, levels)]);
-    let ninth = nest(9);
     let twice = |levels| tree(&["q"], vec![nested(body.with, 8), nested(body.with, levels)]);
     let second = nest(8).len();
-    vec![
-        accepted(name("8"), nest(8)),
-        refused(name("9"), ninth.clone(), 6, place),
-        refused(name("9, no case"), replaced(&ninth, place, &[NO_STATEMENT]), 4, place),
-        refused(name("9, last case"), replaced(&ninth, place, &[14]), 6, place),
-        refused(name("9 at the end"), ninth[..place + 1].to_vec(), 6, place),
-        refused(name("9, no case, at the end"), longer(&ninth[..place], &[15]), 4, place),
-        refused(name("9 missing"), ninth[..place].to_vec(), 3, place),
-        accepted(name("8 and 8 again"), twice(8)),
-        refused(name("8, then 9"), twice(9), 6, second + 8 * body.step),
-    ]
+    let mut cases = one_more(body.name, &STATEMENTS, nest, FIRST + 8 * body.offset);
+    cases.push(accepted(name("8 and 8 again"), twice(8)));
+    cases.push(refused(name("8, then 9"), twice(9), 6, second + 8 * body.offset));
+    cases
 }
 
 fn mixed_bodies() -> Vec<Case> {
@@ -81,7 +96,7 @@ fn mixed_bodies() -> Vec<Case> {
     let order = [0, 1, 2, 3, 4, 0, 1, 2];
     let bodies = bodies();
     let within = |inner| order.iter().rev().fold(inner, |b, i| vec![(bodies[*i].with)(b)]);
-    let place = FIRST + order.iter().map(|i| bodies[*i].step).sum::<usize>();
+    let place = FIRST + order.iter().map(|i| bodies[*i].offset).sum::<usize>();
     let seven = |body| (0..7).fold(body, |inner, _| vec![while_loop(leaf(), inner)]);
     // Seven of 13 bytes, then the if, or a barrier of 10 and the if.
     let in_if = FIRST + 7 * 13;
@@ -134,20 +149,9 @@ fn level_33(chain: &Chain) -> usize {
 }
 
 fn of_chain(chain: &Chain) -> Vec<Case> {
-    let name = |what: &str| format!("{} level {}", chain.name, what);
     let with = |levels| tree(&["q"], vec![assign(chained(chain.with, levels))]);
     // Case, name, op, then the value.
-    let place = FIRST + 4 + level_33(chain);
-    let over = with(33);
-    vec![
-        accepted(name("32"), with(32)),
-        refused(name("33"), over.clone(), 6, place),
-        refused(name("33, no case"), replaced(&over, place, &[NO_EXPRESSION]), 4, place),
-        refused(name("33, last case"), replaced(&over, place, &[9]), 6, place),
-        refused(name("33 at the end"), over[..place + 1].to_vec(), 6, place),
-        refused(name("33, no case, at the end"), longer(&over[..place], &[255]), 4, place),
-        refused(name("33 missing"), over[..place].to_vec(), 3, place),
-    ]
+    one_more(chain.name, &EXPRESSIONS, with, FIRST + 4 + level_33(chain))
 }
 
 fn in_modifier(chain: &Chain) -> Vec<Case> {
@@ -159,50 +163,42 @@ fn in_modifier(chain: &Chain) -> Vec<Case> {
     vec![accepted(name("32"), with(32)), refused(name("33"), with(33), 6, place)]
 }
 
-/// A statement or modifier with an expression, and where that stands after
-/// the statement's case byte.
-struct Holder {
-    name: &'static str,
-    offset: usize,
-    with: fn(Expr) -> Stmt,
-}
-
-fn holders() -> Vec<Holder> {
-    let holder = |name, offset, with| Holder { name, offset, with };
+/// The expressions of statements and modifiers.
+fn holders() -> Vec<Part<Expr>> {
     vec![
         // Case, flag, type, name, flag.
-        holder("init", 6, |e| declare(None, Some(e))),
+        part("init", 6, |e| declare(None, Some(e))),
         // Case, name, op.
-        holder("value", 4, assign),
+        part("value", 4, assign),
         // Case, name, two counts; a leaf of 10 before the second.
-        holder("param", 5, |e| call(vec![], vec![e], vec![])),
-        holder("second param", 15, |e| call(vec![], vec![leaf(), e], vec![])),
+        part("param", 5, |e| call(vec![], vec![e], vec![])),
+        part("second param", 15, |e| call(vec![], vec![leaf(), e], vec![])),
         // Case, name, count, type.
-        holder("function body", 5, |e| function(vec![], e)),
+        part("function body", 5, |e| function(vec![], e)),
         // Case.
-        holder("duration", 1, |e| delay(e, vec![])),
-        holder("if condition", 1, |e| branch(e, vec![], None)),
+        part("duration", 1, |e| delay(e, vec![])),
+        part("if condition", 1, |e| branch(e, vec![], None)),
         // Case, name, type; start, end, flag.
-        holder("range start", 4, |e| for_loop(e, leaf(), None, vec![])),
-        holder("range end", 14, |e| for_loop(leaf(), e, None, vec![])),
-        holder("range step", 25, |e| for_loop(leaf(), leaf(), Some(e), vec![])),
-        holder("while condition", 1, |e| while_loop(e, vec![])),
+        part("range start", 4, |e| for_loop(e, leaf(), None, vec![])),
+        part("range end", 14, |e| for_loop(leaf(), e, None, vec![])),
+        part("range step", 25, |e| for_loop(leaf(), leaf(), Some(e), vec![])),
+        part("while condition", 1, |e| while_loop(e, vec![])),
         // Case, name, count, case, flag.
-        holder("ctrl count", 6, |e| modified(GateModifier::Ctrl(Some(e), SPAN))),
-        holder("negctrl count", 6, |e| modified(GateModifier::NegCtrl(Some(e), SPAN))),
+        part("ctrl count", 6, |e| modified(GateModifier::Ctrl(Some(e), SPAN))),
+        part("negctrl count", 6, |e| modified(GateModifier::NegCtrl(Some(e), SPAN))),
         // Case, name, count, case.
-        holder("power", 5, |e| modified(GateModifier::Pow(e, SPAN))),
+        part("power", 5, |e| modified(GateModifier::Pow(e, SPAN))),
     ]
 }
 
-fn of_holder(holder: &Holder) -> Vec<Case> {
+fn of_holder(holder: &Part<Expr>) -> Vec<Case> {
     let name = |what: &str| format!("{} level {}", holder.name, what);
     let with = |levels| tree(&["q"], vec![(holder.with)(chained(negated, levels))]);
     let place = FIRST + holder.offset + 32;
     vec![
         accepted(name("32"), with(32)),
         refused(name("33"), with(33), 6, place),
-        refused(name("33, no case"), replaced(&with(33), place, &[NO_EXPRESSION]), 4, place),
+        refused(name("33, no case"), replaced(&with(33), place, &[EXPRESSIONS.no_case]), 4, place),
     ]
 }
 

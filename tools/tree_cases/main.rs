@@ -6,6 +6,8 @@ mod counts;
 mod fields;
 mod levels;
 mod make;
+#[path = "../output.rs"]
+mod output;
 mod random;
 mod reader;
 mod selftest;
@@ -15,7 +17,6 @@ mod tree;
 mod writer;
 
 use cases::{line, Case};
-use std::io::Write;
 
 fn main() {
     let command = std::env::args().nth(1).unwrap_or_default();
@@ -26,25 +27,13 @@ fn main() {
         "names" => names(&cases).into_bytes(),
         "count" => count(&cases).into_bytes(),
         "selftest" => std::process::exit(selftest::run(&cases)),
-        _ => {
-            eprintln!("usage: tree_cases input | expected | names | count | selftest");
-            std::process::exit(2);
-        }
+        _ => output::usage("usage: tree_cases input | expected | names | count | selftest"),
     };
-    if let Err(error) = std::io::stdout().write_all(&text) {
-        eprintln!("tree_cases: {error}");
-        std::process::exit(1);
-    }
+    output::write("tree_cases", &text);
 }
 
-/// Each case after its length in four bytes, the highest first.
 fn input(cases: &[Case]) -> Vec<u8> {
-    let mut all = vec![];
-    for case in cases {
-        all.extend_from_slice(&(case.bytes.len() as u32).to_be_bytes());
-        all.extend_from_slice(&case.bytes);
-    }
-    all
+    cases.iter().flat_map(|case| output::measured(&case.bytes)).collect()
 }
 
 fn expected(cases: &[Case]) -> String {

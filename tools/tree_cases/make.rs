@@ -11,6 +11,18 @@ pub fn tree(texts: &[&str], statements: Vec<Stmt>) -> Vec<u8> {
     Writer::tree(&Tree { texts, statements }).bytes
 }
 
+/// A part of a statement, how far after the statement's case byte it stands,
+/// and the statement with it.
+pub struct Part<T> {
+    pub name: &'static str,
+    pub offset: usize,
+    pub with: fn(T) -> Stmt,
+}
+
+pub fn part<T>(name: &'static str, offset: usize, with: fn(T) -> Stmt) -> Part<T> {
+    Part { name, offset, with }
+}
+
 /// `true`, 10 bytes: case, byte, span.
 pub fn leaf() -> Expr {
     Expr::BoolLit(true, SPAN)

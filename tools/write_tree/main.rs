@@ -1,23 +1,9 @@
 //! Writes the tree file of a program text, or what `lister` must print of it.
 
-#[path = "../../target/qasm/ast.rs"]
-#[allow(dead_code)]
-mod ast;
 #[path = "../compare/keys.rs"]
 mod keys;
-#[path = "../tree_cases/reader.rs"]
-mod reader;
-#[path = "../../target/qasm/sema.rs"]
-#[allow(dead_code)]
-mod sema;
-#[path = "../../target/qasm/span.rs"]
-#[allow(dead_code)]
-mod span;
-#[path = "../tree_cases/tree.rs"]
-mod tree;
-#[path = "../tree_cases/writer.rs"]
-#[allow(dead_code)]
-mod writer;
+#[path = "../qasm.rs"]
+mod qasm;
 
 mod error;
 mod exprs;
@@ -27,6 +13,7 @@ mod program;
 mod statements;
 mod tokens;
 
+use qasm::{ast, reader, sema, span, tree, writer};
 use std::io::Write;
 
 const USAGE: &str = "usage: write_tree tree | list FILE";

@@ -203,18 +203,6 @@ impl Texts {
                 targets: self.list(targets, s, Texts::operand)?,
                 span,
             },
-            other => self.call_or_definition(other, s, span)?,
-        })
-    }
-
-    fn call_or_definition(
-        &mut self,
-        statement: &a::Stmt,
-        s: &span::Span,
-        span: t::Span,
-    ) -> Result<t::Stmt, Error> {
-        use t::Stmt::*;
-        Ok(match statement {
             a::Stmt::GateCall { name, modifiers, params, args, .. } => GateCall {
                 name: self.text(name, s)?,
                 modifiers: self.list(modifiers, s, Texts::modifier)?,
@@ -236,18 +224,6 @@ impl Texts {
                 body: self.expr(body)?,
                 span,
             },
-            other => self.branch_or_loop(other, s, span)?,
-        })
-    }
-
-    fn branch_or_loop(
-        &mut self,
-        statement: &a::Stmt,
-        s: &span::Span,
-        span: t::Span,
-    ) -> Result<t::Stmt, Error> {
-        use t::Stmt::*;
-        Ok(match statement {
             a::Stmt::If { condition, then_body, else_body, .. } => If {
                 condition: self.expr(condition)?,
                 then_body: self.body(then_body, s.start)?,
@@ -264,7 +240,6 @@ impl Texts {
             a::Stmt::While { condition, body, .. } => {
                 While { condition: self.expr(condition)?, body: self.body(body, s.start)?, span }
             }
-            _ => unreachable!("the other cases are above"),
         })
     }
 

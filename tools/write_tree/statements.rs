@@ -1,7 +1,7 @@
 //! Statements. A span runs from the first byte to the one after the last.
 
 use crate::ast::{
-    AssignOp, ClassicalQualifier, ClassicalType, ForRange, GateModifier, GateOperand, Stmt,
+    AssignOp, ClassicalQualifier, ClassicalType, Expr, ForRange, GateModifier, GateOperand, Stmt,
 };
 use crate::error::Error;
 use crate::parse::Parser;
@@ -130,9 +130,7 @@ impl Parser<'_> {
         };
         let mut part = None;
         if which == 3 || which != 2 && self.is(0, "(") {
-            self.expect("(")?;
-            part = Some(self.expr()?);
-            self.expect(")")?;
+            part = Some(self.enclosed("(", ")")?);
         }
         self.expect("@")?;
         let span = self.since(start);
@@ -142,6 +140,14 @@ impl Parser<'_> {
             (_, None) => GateModifier::Inv(span),
             (_, Some(power)) => GateModifier::Pow(power, span),
         }))
+    }
+
+    /// An expression between two signs.
+    fn enclosed(&mut self, open: &str, close: &str) -> Result<Expr, Error> {
+        self.expect(open)?;
+        let expr = self.expr()?;
+        self.expect(close)?;
+        Ok(expr)
     }
 
     fn gate_def(&mut self, start: usize) -> Result<Stmt, Error> {
@@ -208,18 +214,14 @@ impl Parser<'_> {
 
     fn delay(&mut self, start: usize) -> Result<Stmt, Error> {
         self.expect("delay")?;
-        self.expect("[")?;
-        let duration = self.expr()?;
-        self.expect("]")?;
+        let duration = self.enclosed("[", "]")?;
         let targets = self.operands()?;
         Ok(Stmt::Delay { duration, targets, span: self.since(start) })
     }
 
     fn if_else(&mut self, start: usize) -> Result<Stmt, Error> {
         self.expect("if")?;
-        self.expect("(")?;
-        let condition = self.expr()?;
-        self.expect(")")?;
+        let condition = self.enclosed("(", ")")?;
         let then_body = self.body()?;
         let else_body = if self.take("else") { Some(self.body()?) } else { None };
         Ok(Stmt::If { condition, then_body, else_body, span: self.since(start) })
@@ -252,9 +254,7 @@ impl Parser<'_> {
 
     fn while_loop(&mut self, start: usize) -> Result<Stmt, Error> {
         self.expect("while")?;
-        self.expect("(")?;
-        let condition = self.expr()?;
-        self.expect(")")?;
+        let condition = self.enclosed("(", ")")?;
         let body = self.body()?;
         Ok(Stmt::While { condition, body, span: self.since(start) })
     }

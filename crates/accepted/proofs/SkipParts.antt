@@ -2,7 +2,6 @@
 use Prim.Native.Nat.{ℕ, _+_, _*_, _≤_, _<_}
 use mathlib.Core.Path.{_≡_, sym}
 use mathlib.Core.List.{List}
-use mathlib.Core.Logic.{⊎-elim}
 use native.Mathlib.Omega.{arith}
 use lib.ListN.{length, getD}
 use Rattle.ast.specs.Tree.{Text}
@@ -38,9 +37,3 @@ module _ (t : List Text) (s : List ℕ) (at : ℕ) where
 
     pub pow-next : getD s at 0 ≡ 3 → (k : ℕ) → k ≡ nextOf (held t s (at + 1)) → k + 8 ≡ nextOf (modifier t s at)
     pow-next b k e = sym (next-is (of.pow-is t s at h b k e))
-
-    -- `ctrl` and `negctrl` have one shape
-    module _ (n : getD s at 0 ≡ 2 → ⊥) (o : getD s at 0 ≡ 3 → ⊥) where
-      module _ (k : ℕ) (e : k ≡ nextOf (option (held t) s (at + 1))) where
-        pub control-next : k + 8 ≡ nextOf (modifier t s at)
-        control-next = sym (⊎-elim (λ b. next-is (of.ctrl-is t s at h b k e)) (λ b. next-is (of.negCtrl-is t s at h b k e)) (of.control t s at h n o))

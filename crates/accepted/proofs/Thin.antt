@@ -2,10 +2,10 @@
 --     thin τ f         the MIR: the result has the type τ, and f is called
 --     signature, spec  the contract, over the result's type R, what is asked of the struct's value, and what is said of the result
 --     Cited            the callee's, which asks and says the same of the bytes and the place
---     thin-meets       the MIR meets the contract, where the callee meets its own. All that the proof knows of the callee is that
+--     thin-spec        a routine of that MIR meets the contract, where the callee meets its own. All that the proof knows of the callee is that
 -- The struct is Copy: what it owns is had twice, one copy is kept whole for the exit, and of the other what the callee asks is made.
 -- Assumes nothing.
-use mathlib.Core.Path.{refl}
+use mathlib.Core.Path.{_≡_, refl}
 use Prim.Native.Nat.{_<_, _^_}
 use mathlib.Core.List.{[], _∷_}
 use lib.Dec.{T as Holds}
@@ -14,9 +14,12 @@ use mir.Syntax.{Ty, Name, Fn, named, erased, imm, tyInt, tyRef, w8, w64, local, 
 use mir.Val.{Val, WT, hasTy, vint}
 use base.Logic.{SProp, ent, sep, snd∗, exE, id⊢}
 use base.Fml.{Lft, Share, ftrue, flft}
-use prog.Wp.{Heap, Calls, Loops, WpFn, Tables}
+use prog.Model.{Model}
+use prog.Routine.{Routine, Env}
+use prog.Wp.{Heap, Calls, Loops, WpFn, Tables, Closed}
 use ghost.Atoms.{Atoms, sem}
 use contract.Monad.{fact}
+use contract.Running.{GhostRules, Running, givenOf, tables, tablesOf}
 use types.Kit.{Given, ‵, raw, _⊛_, ⋆, some, later, _$_, _∵_, !, qed, by, move, drop, use1, use2, split, pick, fsplit, fjoin, suffices, frame, await, done}
 use types.Part.{whole, sub, look-in}
 use types.Run.{look, init, forget, stop, fld, from, load, of-opd, and-then, no-more, assigns, land, returns, enter, alloc1, alloc0, params1, pass1, pass0, free1, free0}
@@ -32,6 +35,7 @@ use denote.Triple.Statement.{Contract, Triple}
 use denote.Triple.Call.{calls-at}
 use denote.Triple.Entry.{onEntry}
 use denote.Triple.Spec.{Meets, Spec, tripleOf}
+use denote.Triple.Table.{entered, cited}
 use denote.Triple.Walked.{says, needs, Stays, stay-none, walkOf, goes-none, Walks, ends-at, walked, walk-meets}
 use denote.Exit.{yes}
 use denote.Triple.Clauses.{Ended, Clauses, closing, ensured, lasts}
@@ -126,6 +130,15 @@ module _ (R : RattleType) (Asks : TreeReader → Type 0) (Says : TreeReader → 
     walks C Λ fm known = walked 𝓤 H A ended stayed (clauses 𝓤 H A) (WpFn 𝓤 H C Λ (thin τ f)) (λ κs. (LL.vals (D κs) (L κs), tt)) (λ κs. (LL.tells (D κs) (L κs), tt))
         (λ κs qs bounds a g are. needs 𝓤 (Asks (a .0)) _ (λ ok. walk (κs .0) (qs .0) (a .0) C Λ fm known ok (LL.lawful (D κs) (L κs) 𝓤 H A W .typed (a .0) _ (are .0) .0)))
 
-    pub thin-meets : (𝓣 : Tables 𝓤 H) → Triple 𝓤 (𝓣 .C f) (Cited 𝓤 H A) → Meets 𝓤 H A signature (WpFn 𝓤 H (𝓣 .C) (𝓣 .Λ) (thin τ f)) (spec 𝓤 H A)
+    thin-meets : (𝓣 : Tables 𝓤 H) → Triple 𝓤 (𝓣 .C f) (Cited 𝓤 H A) → Meets 𝓤 H A signature (WpFn 𝓤 H (𝓣 .C) (𝓣 .Λ) (thin τ f)) (spec 𝓤 H A)
     thin-meets 𝓣 known = walk-meets 𝓤 H A ended stayed W (goes-none 𝓤 H A W 1 B yes (λ κs x f. refl), tt) (clauses 𝓤 H A) (WpFn 𝓤 H (𝓣 .C) (𝓣 .Λ) (thin τ f)) (WpFn-mono 𝓤 H (W .laws) 𝓣 (thin τ f))
         (walks (𝓣 .C) (𝓣 .Λ) (fmOf 𝓤 H (W .laws) 𝓣) known)
+
+  -- .. and so does the routine, where its name means that MIR, and the callee's name a routine that meets its contract
+  module _ {M : Type 1} (𝓤 : URA M) (H : Heap 𝓤) (𝓜 : Model 𝓤 H) (𝓖 : GhostRules 𝓤 H) (𝓡 : Running 𝓤 H 𝓜) (γ : Env) where
+    pub thin-spec : (τ : Ty) → ((r : R .Denot) (u : Val) → Is R r (u ∷ []) → Holds (hasTy τ u) × WT u) → (f : Name) (called : Routine) → γ f ≡ called → (k : Name) → Closed 𝓤 H (tables 𝓤 H 𝓜 𝓡 γ .C) (tables 𝓤 H 𝓜 𝓡 γ .Λ) k (thin τ f)
+        → Triple 𝓤 (𝓡 .run called) (Cited 𝓤 H (𝓖 .A)) → Meets 𝓤 H (𝓖 .A) signature (tables 𝓤 H 𝓜 𝓡 γ .C k) (spec 𝓤 H (𝓖 .A))
+    unfolding tablesOf
+    thin-spec τ typed f called e k closed met =
+        entered 𝓤 H (tripleOf 𝓤 H (𝓖 .A) signature (spec 𝓤 H (𝓖 .A))) (tables 𝓤 H 𝓜 𝓡 γ .C) (tables 𝓤 H 𝓜 𝓡 γ .Λ) k (thin τ f) closed
+        (thin-meets 𝓤 H (𝓖 .A) (givenOf 𝓤 H 𝓜 𝓖) τ typed f (tablesOf 𝓤 H 𝓜 (tables 𝓤 H 𝓜 𝓡 γ)) (cited 𝓤 H (Cited 𝓤 H (𝓖 .A)) 𝓜 𝓡 γ f called e met))

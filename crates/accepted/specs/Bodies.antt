@@ -1,6 +1,6 @@
 -- What accepted bodies and statements say of their parts, before the cases: the count and the statements of a body, an `else`, the case byte
 -- of a statement, the levels left, and where a statement ends. Assumes nothing.
-use Prim.Native.Nat.{ℕ, _+_, _-_, _≤_, _<_}
+use Prim.Native.Nat.{ℕ, _+_, _≤_, _<_}
 use mathlib.Core.Path.{_≡_, refl, ap, subst}
 use mathlib.Core.List.{List}
 use native.Mathlib.Omega.{arith}
@@ -12,12 +12,11 @@ use Rattle.tree.specs.Texts.{isName, isPath}
 use Rattle.tree.specs.Stmts.{classicalType, assignOp, body, toElse, elseBody, include, qubitDecl, bitDecl, classicalDecl, assignment, gateCall, gateDef, functionDef, measure, reset, barrier, delay, branch, forLoop, whileLoop, stmtCases, stmt}
 use Rattle.tree.specs.Levels.{stmt-levels}
 use Rattle.context.specs.View.{numberAt}
-use Rattle.accepted.specs.Cases.{blankStmt}
-use Rattle.accepted.specs.Parts.{valueOr, Goes, start, field, known, ends}
-use Rattle.accepted.specs.Fields.{number-in, number-is, option-in, option-none, option-held, option-some, repeat-first, repeat-rest, repeat-is}
+use Rattle.accepted.specs.Parts.{valueOr, start, field, known, ends}
+use Rattle.accepted.specs.Fields.{number-in, number-is, option-in, option-none, option-held, option-some}
 use Rattle.accepted.specs.Remains.{Remains}
 use Rattle.accepted.specs.Ends.{Moves, seq-moves, last-moves, number-moves, span-moves, one-moves, text-moves, option-moves, repeat-moves, counted-moves, none-left, and, each-moves, refuse-moves}
-use Rattle.accepted.specs.Levels.{level-in, level-below, level-left, level-goes, level-moves, level-forward, level-end}
+use Rattle.accepted.specs.Levels.{level-in, level-below, level-left, level-moves, level-forward, level-end}
 use Rattle.accepted.specs.Operands.{qualifier-moves, operand-moves, held-moves, modifier-moves, forRange-moves, param-moves}
 
 -- a body: its two-byte count, and so many statements
@@ -64,10 +63,6 @@ stmt-below t = level-below (stmt-levels t)
 
 pub stmt-left : (t : List Text) (left : ℕ) (s : List ℕ) (at : ℕ) → IsOk (stmt t left s at) → 0 < left
 stmt-left t = level-left (stmt-levels t)
-
--- behind the case byte
-pub stmt-goes : (t : List Text) (left : ℕ) (s : List ℕ) (at : ℕ) → IsOk (stmt t left s at) → (c : ℕ) → getD s at 0 ≡ c → Goes (stmt t left s at) (getD (stmtCases t (stmt t (left - 1)) at) c (refuse 4 at)) s (at + 1)
-stmt-goes t = level-goes (stmt-levels t)
 
 pub body-moves : {inner : Reader Stmt} → Moves inner → Moves (body inner)
 unfolding body
@@ -124,14 +119,3 @@ module _ (t : List Text) (left : ℕ) (s : List ℕ) (at : ℕ) (h : IsOk (body 
 
   pub body-end : nextOf (body (stmt t left) s at) ≤ length s
   body-end = body-moves (stmt-moves t left) .moves s at body-within h .1
-
--- the statements of a body: one more
-module _ (t : List Text) (left : ℕ) (s : List ℕ) (n k : ℕ) (h : IsOk (repeat noStmt moreStmt (stmt t left) n s k)) (l : 0 < n) where
-  pub stmts-first : IsOk (stmt t left s k)
-  stmts-first = repeat-first s k noStmt moreStmt (stmt t left) n h l
-
-  pub stmts-rest : (m : ℕ) → m ≡ nextOf (stmt t left s k) → IsOk (repeat noStmt moreStmt (stmt t left) (n - 1) s m)
-  stmts-rest m e = repeat-rest s k noStmt moreStmt (stmt t left) n h l m e
-
-  pub stmts-is : (m : ℕ) → m ≡ nextOf (stmt t left s k) → repeat noStmt moreStmt (stmt t left) n s k ≡ ok (moreStmt (valueOr blankStmt (stmt t left s k)) (valueOr noStmt (repeat noStmt moreStmt (stmt t left) (n - 1) s m))) (nextOf (repeat noStmt moreStmt (stmt t left) (n - 1) s m))
-  stmts-is m e = repeat-is s k noStmt moreStmt (stmt t left) n h l m e blankStmt

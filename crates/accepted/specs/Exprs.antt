@@ -1,25 +1,23 @@
 -- What an accepted expression says of its parts, and which tree it is: for each production, the parts are accepted where they stand, the
 -- span's bytes are inside, and the whole is this value and this place. A place past a part is a number that equals its end. Assumes nothing.
 use Prim.Native.Nat.{ℕ, _+_, _-_, _≤_, _<_}
-use mathlib.Core.Path.{_≡_, refl, sym}
-use mathlib.Core.Bool.{Bool, true, false}
+use mathlib.Core.Path.{_≡_, sym}
 use mathlib.Core.List.{List}
 use mathlib.Core.Logic.{_⊎_, inl, inr}
 use native.Mathlib.Omega.{arith}
 use lib.ListN.{length, getD}
-use lib.Dec.{eqb}
-use borrow.Author.Tests.{eqb-true, eqb-false}
 use Rattle.span.specs.declared.Span.{Span}
-use Rattle.ast.specs.Tree.{Text, Expr, noExpr, moreExpr}
-use Rattle.tree.specs.Ans.{ok, Reader, _>>=_, done, refuse, IsOk, nextOf}
-use Rattle.tree.specs.Read.{span, bool, repeat}
+use Rattle.ast.specs.Tree.{Text, Expr, noExpr}
+use Rattle.tree.specs.Ans.{ok, Reader, _>>=_, refuse, IsOk, nextOf}
+use Rattle.tree.specs.Read.{bool}
 use Rattle.tree.specs.Texts.{isName, isFloat}
-use Rattle.tree.specs.Exprs.{constKind, binOp, compareOp, exprs, intLit, floatLit, boolLit, ident, index, call, const, neg, binary, compare, exprCases, expr}
+use Rattle.tree.specs.Exprs.{name, constKind, binOp, compareOp, exprs, intLit, floatLit, boolLit, ident, index, call, const, neg, binary, compare, exprCases, expr}
 use Rattle.tree.specs.Levels.{expr-levels}
 use Rattle.context.specs.View.{numberAt, spanAt}
-use Rattle.accepted.specs.Cases.{boolOf, constKindOf, binOpOf, compareOpOf, blank}
+use Rattle.accepted.specs.Cases.{boolOf, constKindOf, binOpOf, compareOpOf, one-of-two, blank}
 use Rattle.accepted.specs.Parts.{valueOr, next-is, end-in, Goes, field, known, past, ends}
-use Rattle.accepted.specs.Fields.{number-is, span-is, one-is, text-in-at, text-below, text-is, repeat-first, repeat-rest, repeat-is}
+use Rattle.accepted.specs.Fields.{number-is, span-is, one-is, text-is}
+use Rattle.accepted.specs.Spanned.{one, two, spanned-is, Named, named, past-name}
 use Rattle.accepted.specs.Ends.{Moves, seq-moves, last-moves, number-moves, span-moves, one-moves, text-moves, counted-moves, none-left, and, each-moves, refuse-moves}
 use Rattle.accepted.specs.Levels.{level-in, level-below, level-left, level-goes, level-moves, level-forward, level-end}
 
@@ -43,15 +41,8 @@ module _ (s : List ℕ) (at : ℕ) where
 pub expr-in : (t : List Text) (left : ℕ) (s : List ℕ) (at : ℕ) → IsOk (expr t left s at) → at < length s
 expr-in t = level-in (expr-levels t)
 
-pub expr-below : (t : List Text) (left : ℕ) (s : List ℕ) (at : ℕ) → IsOk (expr t left s at) → getD s at 0 < 10
-expr-below t = level-below (expr-levels t)
-
 pub expr-left : (t : List Text) (left : ℕ) (s : List ℕ) (at : ℕ) → IsOk (expr t left s at) → 0 < left
 expr-left t = level-left (expr-levels t)
-
--- behind the case byte
-expr-goes : (t : List Text) (left : ℕ) (s : List ℕ) (at : ℕ) → IsOk (expr t left s at) → (c : ℕ) → getD s at 0 ≡ c → Goes (expr t left s at) (getD (exprCases t (expr t (left - 1))) c (refuse 4 at)) s (at + 1)
-expr-goes t = level-goes (expr-levels t)
 
 cases-move : (t : List Text) (inner : Reader Expr) → Moves inner → (place c : ℕ) → Moves (getD (exprCases t inner) c (refuse 4 place))
 unfolding exprCases intLit floatLit boolLit ident index call const neg binary compare bool constKind binOp compareOp
@@ -80,20 +71,12 @@ expr-end t = level-end (expr-levels t) (cases-move t)
 pub expr-forward : (t : List Text) (left : ℕ) (s : List ℕ) (at : ℕ) → IsOk (expr t left s at) → at ≤ nextOf (expr t left s at)
 expr-forward t = level-forward (expr-levels t) (cases-move t)
 
--- two operands and the span, behind an operator
-abbrev operands : (Expr → Expr → Span → Expr) → Reader Expr → Reader Expr
-operands make inner = do
-  lhs ← inner
-  rhs ← inner
-  sp ← span
-  done (make lhs rhs sp)
-
 module _ (t : List Text) (left : ℕ) (s : List ℕ) (at : ℕ) (h : IsOk (expr t left s at)) where
   -- an integer literal
   module _ (b : getD s at 0 ≡ 0) where
     pub intLit-is : expr t left s at ≡ ok (Expr.IntLit (numberAt 8 s (at + 1)) (spanAt s (at + 9))) (at + 17)
     unfolding exprCases intLit
-    intLit-is = ends _ (known _ _ (at + 17) (span-is s (at + 9)) (omega arith) (known _ _ (at + 9) (number-is s (at + 1) 8) (omega arith) (expr-goes t left s at h 0 b)))
+    intLit-is = ends _ (known _ _ (at + 17) (span-is s (at + 9)) (omega arith) (known _ _ (at + 9) (number-is s (at + 1) 8) (omega arith) (level-goes (expr-levels t) left s at h 0 b)))
 
     pub intLit-inside : at + 17 ≤ length s
     intLit-inside = end-in intLit-is (expr-end t left s at h)
@@ -102,7 +85,7 @@ module _ (t : List Text) (left : ℕ) (s : List ℕ) (at : ℕ) (h : IsOk (expr 
   module _ (b : getD s at 0 ≡ 1) where
     pub floatLit-is : expr t left s at ≡ ok (Expr.FloatLit (numberAt 2 s (at + 1)) (spanAt s (at + 3))) (at + 11)
     unfolding exprCases floatLit
-    floatLit-is = ends _ (known _ _ (at + 11) (span-is s (at + 3)) (omega arith) (known _ _ (at + 3) (text-is s (at + 1) t isFloat) (omega arith) (expr-goes t left s at h 1 b)))
+    floatLit-is = ends _ (known _ _ (at + 11) (span-is s (at + 3)) (omega arith) (known _ _ (at + 3) (text-is s (at + 1) t isFloat) (omega arith) (level-goes (expr-levels t) left s at h 1 b)))
 
     pub floatLit-inside : at + 11 ≤ length s
     floatLit-inside = end-in floatLit-is (expr-end t left s at h)
@@ -111,55 +94,52 @@ module _ (t : List Text) (left : ℕ) (s : List ℕ) (at : ℕ) (h : IsOk (expr 
   module _ (b : getD s at 0 ≡ 2) where
     pub boolLit-is : expr t left s at ≡ ok (Expr.BoolLit (boolOf (getD s (at + 1) 0)) (spanAt s (at + 2))) (at + 10)
     unfolding exprCases boolLit
-    boolLit-is = ends _ (known _ _ (at + 10) (span-is s (at + 2)) (omega arith) (known _ _ (at + 2) (bool-is s (at + 1)) (omega arith) (expr-goes t left s at h 2 b)))
+    boolLit-is = ends _ (known _ _ (at + 10) (span-is s (at + 2)) (omega arith) (known _ _ (at + 2) (bool-is s (at + 1)) (omega arith) (level-goes (expr-levels t) left s at h 2 b)))
 
     pub boolLit-inside : at + 10 ≤ length s
     boolLit-inside = end-in boolLit-is (expr-end t left s at h)
 
   -- a name
   module _ (b : getD s at 0 ≡ 3) where
-    pub ident-name : numberAt 2 s (at + 1) < length t
+    pub ident-named : Named t s at
     unfolding exprCases ident
-    ident-name = text-below s (at + 1) t isName (field _ _ (expr-goes t left s at h 3 b))
+    ident-named = named t at _ (level-goes (expr-levels t) left s at h 3 b)
 
     pub ident-is : expr t left s at ≡ ok (Expr.Ident (numberAt 2 s (at + 1)) (spanAt s (at + 3))) (at + 11)
     unfolding exprCases ident
-    ident-is = ends _ (known _ _ (at + 11) (span-is s (at + 3)) (omega arith) (known _ _ (at + 3) (text-is s (at + 1) t isName) (omega arith) (expr-goes t left s at h 3 b)))
+    ident-is = ends _ (known _ _ (at + 11) (span-is s (at + 3)) (omega arith) (past-name t at _ (level-goes (expr-levels t) left s at h 3 b)))
 
     pub ident-inside : at + 11 ≤ length s
     ident-inside = end-in ident-is (expr-end t left s at h)
 
   -- a name with an index
   module _ (b : getD s at 0 ≡ 4) where
-    pub index-name : numberAt 2 s (at + 1) < length t
+    pub index-named : Named t s at
     unfolding exprCases index
-    index-name = text-below s (at + 1) t isName (field _ _ (expr-goes t left s at h 4 b))
+    index-named = named t at _ (level-goes (expr-levels t) left s at h 4 b)
 
     pub index-is : expr t left s at ≡ ok (Expr.Index (numberAt 2 s (at + 1)) (numberAt 8 s (at + 3)) (spanAt s (at + 11))) (at + 19)
     unfolding exprCases index
-    index-is = ends _ (known _ _ (at + 19) (span-is s (at + 11)) (omega arith) (known _ _ (at + 11) (number-is s (at + 3) 8) (omega arith) (known _ _ (at + 3) (text-is s (at + 1) t isName) (omega arith) (expr-goes t left s at h 4 b))))
+    index-is = ends _ (known _ _ (at + 19) (span-is s (at + 11)) (omega arith) (known _ _ (at + 11) (number-is s (at + 3) 8) (omega arith) (past-name t at _ (level-goes (expr-levels t) left s at h 4 b))))
 
     pub index-inside : at + 19 ≤ length s
     index-inside = end-in index-is (expr-end t left s at h)
 
   -- a call
   module _ (b : getD s at 0 ≡ 5) where
-    pub call-name : numberAt 2 s (at + 1) < length t
+    call-goes : Goes (expr t left s at) (_>>=_ (name t) (λ x. one (exprs (expr t (left - 1))) (Expr.Call x))) s (at + 1)
     unfolding exprCases call
-    call-name = text-below s (at + 1) t isName (field _ _ (expr-goes t left s at h 5 b))
+    call-goes = level-goes (expr-levels t) left s at h 5 b
 
-    pub call-name-in : at + 3 ≤ length s
-    unfolding exprCases call
-    call-name-in = text-in-at s (at + 1) _ (omega arith) t isName (field _ _ (expr-goes t left s at h 5 b))
+    pub call-named : Named t s at
+    call-named = named t at _ call-goes
 
     pub call-args : IsOk (exprs (expr t (left - 1)) s (at + 3))
-    unfolding exprCases call
-    call-args = field _ _ (known _ _ (at + 3) (text-is s (at + 1) t isName) (omega arith) (expr-goes t left s at h 5 b))
+    call-args = field _ _ (past-name t at _ call-goes)
 
     module _ (k : ℕ) (k-end : k ≡ nextOf (exprs (expr t (left - 1)) s (at + 3))) where
       pub call-is : expr t left s at ≡ ok (Expr.Call (numberAt 2 s (at + 1)) (valueOr noExpr (exprs (expr t (left - 1)) s (at + 3))) (spanAt s k)) (k + 8)
-      unfolding exprCases call
-      call-is = ends _ (known _ _ (k + 8) (span-is s k) refl (past _ _ noExpr k k-end (known _ _ (at + 3) (text-is s (at + 1) t isName) (omega arith) (expr-goes t left s at h 5 b))))
+      call-is = spanned-is _ (past _ _ noExpr k k-end (past-name t at _ call-goes))
 
       pub call-inside : k + 8 ≤ length s
       call-inside = end-in call-is (expr-end t left s at h)
@@ -168,21 +148,23 @@ module _ (t : List Text) (left : ℕ) (s : List ℕ) (at : ℕ) (h : IsOk (expr 
   module _ (b : getD s at 0 ≡ 6) where
     pub const-is : expr t left s at ≡ ok (Expr.Const (constKindOf (getD s (at + 1) 0)) (spanAt s (at + 2))) (at + 10)
     unfolding exprCases const
-    const-is = ends _ (known _ _ (at + 10) (span-is s (at + 2)) (omega arith) (known _ _ (at + 2) (constKind-is s (at + 1)) (omega arith) (expr-goes t left s at h 6 b)))
+    const-is = ends _ (known _ _ (at + 10) (span-is s (at + 2)) (omega arith) (known _ _ (at + 2) (constKind-is s (at + 1)) (omega arith) (level-goes (expr-levels t) left s at h 6 b)))
 
     pub const-inside : at + 10 ≤ length s
     const-inside = end-in const-is (expr-end t left s at h)
 
   -- a negation
   module _ (b : getD s at 0 ≡ 7) where
-    pub neg-inner : IsOk (expr t (left - 1) s (at + 1))
+    neg-goes : Goes (expr t left s at) (one (expr t (left - 1)) Expr.Neg) s (at + 1)
     unfolding exprCases neg
-    neg-inner = field _ _ (expr-goes t left s at h 7 b)
+    neg-goes = level-goes (expr-levels t) left s at h 7 b
+
+    pub neg-inner : IsOk (expr t (left - 1) s (at + 1))
+    neg-inner = field _ _ neg-goes
 
     module _ (k : ℕ) (k-end : k ≡ nextOf (expr t (left - 1) s (at + 1))) where
       pub neg-is : expr t left s at ≡ ok (Expr.Neg (valueOr blank (expr t (left - 1) s (at + 1))) (spanAt s k)) (k + 8)
-      unfolding exprCases neg
-      neg-is = ends _ (known _ _ (k + 8) (span-is s k) refl (past _ _ blank k k-end (expr-goes t left s at h 7 b)))
+      neg-is = spanned-is _ (past _ _ blank k k-end neg-goes)
 
       pub neg-inside : k + 8 ≤ length s
       neg-inside = end-in neg-is (expr-end t left s at h)
@@ -192,20 +174,16 @@ module _ (t : List Text) (left : ℕ) (s : List ℕ) (at : ℕ) (h : IsOk (expr 
   Operation = (getD s at 0 ≡ 8) ⊎ (getD s at 0 ≡ 9)
 
   pub operation : 8 ≤ getD s at 0 → Operation
-  operation l = go (eqb (getD s at 0) 8) refl
-    where
-      go : (v : Bool) → eqb (getD s at 0) 8 ≡ v → Operation
-      go true e = inl (eqb-true (getD s at 0) 8 e)
-      go false e = let n = eqb-false (getD s at 0) 8 e in let u = expr-below t left s at h in inr (omega arith)
+  operation l = one-of-two (getD s at 0) 8 l (level-below (expr-levels t) left s at h)
 
   unfoldable pairOf : Operation → Expr → Expr → Span → Expr
   pairOf (inl b) = Expr.BinOp (binOpOf (getD s (at + 1) 0))
   pairOf (inr b) = Expr.Compare (compareOpOf (getD s (at + 1) 0))
 
-  pair-goes : (b : Operation) → Goes (expr t left s at) (operands (pairOf b) (expr t (left - 1))) s (at + 2)
+  pair-goes : (b : Operation) → Goes (expr t left s at) (two (expr t (left - 1)) (expr t (left - 1)) (pairOf b)) s (at + 2)
   unfolding exprCases binary compare pairOf
-  pair-goes (inl b) = known _ _ (at + 2) (binOp-is s (at + 1)) (omega arith) (expr-goes t left s at h 8 b)
-  pair-goes (inr b) = known _ _ (at + 2) (compareOp-is s (at + 1)) (omega arith) (expr-goes t left s at h 9 b)
+  pair-goes (inl b) = known _ _ (at + 2) (binOp-is s (at + 1)) (omega arith) (level-goes (expr-levels t) left s at h 8 b)
+  pair-goes (inr b) = known _ _ (at + 2) (compareOp-is s (at + 1)) (omega arith) (level-goes (expr-levels t) left s at h 9 b)
 
   abbrev PairIs : (Expr → Expr → Span → Expr) → Type 0
   PairIs make = (k : ℕ) → k ≡ nextOf (expr t (left - 1) s (at + 2)) → (m : ℕ) → m ≡ nextOf (expr t (left - 1) s k) → expr t left s at ≡ ok (make (valueOr blank (expr t (left - 1) s (at + 2))) (valueOr blank (expr t (left - 1) s k)) (spanAt s m)) (m + 8)
@@ -215,7 +193,7 @@ module _ (t : List Text) (left : ℕ) (s : List ℕ) (at : ℕ) (h : IsOk (expr 
     pair-lhs = field _ _ (pair-goes b)
 
     pair-is : PairIs (pairOf b)
-    pair-is k k-end m m-end = ends _ (known _ _ (m + 8) (span-is s m) refl (past _ _ blank m m-end (past _ _ blank k k-end (pair-goes b))))
+    pair-is k k-end m m-end = spanned-is _ (past _ _ blank m m-end (past _ _ blank k k-end (pair-goes b)))
 
     module _ (k : ℕ) (k-end : k ≡ nextOf (expr t (left - 1) s (at + 2))) where
       pub pair-rhs : IsOk (expr t (left - 1) s k)
@@ -235,14 +213,3 @@ module _ (t : List Text) (left : ℕ) (s : List ℕ) (at : ℕ) (h : IsOk (expr 
   pub compare-is : getD s at 0 ≡ 9 → PairIs (Expr.Compare (compareOpOf (getD s (at + 1) 0)))
   unfolding pairOf
   compare-is b = pair-is (inr b)
-
--- the arguments of a call, and the parameters of a gate call: one expression more
-module _ (t : List Text) (left : ℕ) (s : List ℕ) (n k : ℕ) (h : IsOk (repeat noExpr moreExpr (expr t left) n s k)) (l : 0 < n) where
-  pub args-first : IsOk (expr t left s k)
-  args-first = repeat-first s k noExpr moreExpr (expr t left) n h l
-
-  pub args-rest : (m : ℕ) → m ≡ nextOf (expr t left s k) → IsOk (repeat noExpr moreExpr (expr t left) (n - 1) s m)
-  args-rest m e = repeat-rest s k noExpr moreExpr (expr t left) n h l m e
-
-  pub args-is : (m : ℕ) → m ≡ nextOf (expr t left s k) → repeat noExpr moreExpr (expr t left) n s k ≡ ok (moreExpr (valueOr blank (expr t left s k)) (valueOr noExpr (repeat noExpr moreExpr (expr t left) (n - 1) s m))) (nextOf (repeat noExpr moreExpr (expr t left) (n - 1) s m))
-  args-is m e = repeat-is s k noExpr moreExpr (expr t left) n h l m e blank

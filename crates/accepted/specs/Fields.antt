@@ -116,10 +116,6 @@ module _ (s : List ℕ) (at : ℕ) where
     unfolding textNumber
     text-is = ends _ (past-check _ _ _ _ (past-check _ _ _ _ (known _ _ (at + 2) (number-is s at 2) refl (past-here _ (start h)))))
 
-  -- with the end as the code names it
-  pub text-in-at : (end : ℕ) → at + 2 ≡ end → (t : List Text) (spelled : Text → Bool) → IsOk (textNumber t spelled s at) → end ≤ length s
-  text-in-at end e t spelled h = let i = text-in t spelled h in omega arith
-
   -- an Option: none behind a 0, and some value else
   module _ {A : Type 0} (p : Reader A) (h : IsOk (option p s at)) where
     option-goes : (b : ℕ) → getD s at 0 ≡ b → Goes (option p s at) (optionCase p b) s (at + 1)

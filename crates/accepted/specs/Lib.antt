@@ -4,6 +4,7 @@ pub mod Remains
 pub mod Ends
 pub mod Cases
 pub mod Numbers
+pub mod Spanned
 pub mod Levels
 pub mod Exprs
 pub mod Spans
@@ -11,6 +12,7 @@ pub mod Operands
 pub mod Sizes
 pub mod Bodies
 pub mod Stmts
+pub mod Compound
 pub mod Files
 pub mod Marked
 pub mod Counts

@@ -7,12 +7,13 @@ use Rattle.tree.specs.Ans.{IsOk, nextOf, given}
 use Rattle.tree.specs.Read.{option}
 use Rattle.tree.specs.Stmts.{operand, stmtCases, stmt}
 use Rattle.tree.specs.Decode.{textsOf}
+use Rattle.tree.specs.Levels.{stmt-levels}
 use Rattle.context.specs.View.{spanAt, stmtSpan, measureSpan}
 use Rattle.accepted.specs.Parts.{given-is}
-use Rattle.accepted.specs.Bodies.{stmt-goes}
+use Rattle.accepted.specs.Levels.{level-goes}
 use Rattle.accepted.specs.Stmts.{measure-is}
 
 pub measured-span : (left : ℕ) (s : List ℕ) (at : ℕ) → IsOk (stmt (textsOf s) left s at) → getD s at 0 ≡ 8 → (k : ℕ) → k ≡ nextOf (operand (textsOf s) s (at + 1)) → (m : ℕ) → m ≡ nextOf (option (operand (textsOf s)) s k) → measureSpan s at ≡ spanAt s m
 unfolding measureSpan stmtCases
 measured-span left s at h b k k-end m m-end =
-    ap (given _ stmtSpan) (sym (stmt-goes (textsOf s) left s at h 8 b .is)) ∙ given-is (measure-is (textsOf s) left s at h b k k-end m m-end) _ stmtSpan
+    ap (given _ stmtSpan) (sym (level-goes (stmt-levels (textsOf s)) left s at h 8 b .is)) ∙ given-is (measure-is (textsOf s) left s at h b k k-end m m-end) _ stmtSpan

@@ -1,13 +1,14 @@
 -- What accepted operands, modifiers, ranges and parameters say of their parts, and which values they are. Assumes nothing.
-use Prim.Native.Nat.{ℕ, zero, suc, _+_, _≤_, _<_}
+use Prim.Native.Nat.{ℕ, _+_, _≤_, _<_}
 use mathlib.Core.Path.{_≡_, refl, sym, ap, _∙_}
 use mathlib.Core.List.{List, [], _∷_}
-use mathlib.Core.Option.{none, some}
-use mathlib.Core.Logic.{_⊎_, inl, inr, ⊎-elim}
+use mathlib.Core.Option.{Option, none, some}
+use mathlib.Core.Logic.{_⊎_, inl, inr}
 use native.Mathlib.Omega.{arith}
 use lib.ListN.{length, getD}
-use Rattle.ast.specs.Tree.{Text, GateOperand as Operand, GateModifier}
-use Rattle.tree.specs.Ans.{ok, refuse, IsOk, nextOf}
+use Rattle.span.specs.declared.Span.{Span}
+use Rattle.ast.specs.Tree.{Text, Expr, GateOperand as Operand, GateModifier}
+use Rattle.tree.specs.Ans.{ok, _>>=_, done, refuse, IsOk, nextOf}
 use Rattle.tree.specs.Read.{u64, span, option}
 use Rattle.tree.specs.Texts.{isName}
 use Rattle.tree.specs.Exprs.{name}
@@ -15,9 +16,10 @@ use Rattle.tree.specs.Stmts.{classicalType, qualifier, slice, operand, held, ct
 use Rattle.context.specs.declared.GateOperand.{GateOperand}
 use Rattle.context.specs.Values.{operandOf}
 use Rattle.context.specs.View.{numberAt, spanAt, typeOf}
-use Rattle.accepted.specs.Cases.{qualifierOf, blank, blankOperand}
-use Rattle.accepted.specs.Parts.{valueOr, is-ok, value-is, end-in, Goes, start, field, known, past, ends}
+use Rattle.accepted.specs.Cases.{qualifierOf, one-of-two, blank, blankOperand}
+use Rattle.accepted.specs.Parts.{valueOr, is-ok, next-is, value-is, end-in, Goes, start, field, known, past, ends}
 use Rattle.accepted.specs.Fields.{number-in, number-is, span-is, one-in, one-is, choice-in, choice-below, choice, text-in, text-below, text-is, option-known, option-held}
+use Rattle.accepted.specs.Spanned.{one, two, spanned-is, Named, named, past-name}
 use Rattle.accepted.specs.Ends.{Moves, seq-moves, last-moves, number-moves, span-moves, one-moves, text-moves, option-moves, none-left, and, each-moves, refuse-moves, choice-moves}
 use Rattle.accepted.specs.Exprs.{expr-moves}
 
@@ -112,19 +114,20 @@ module _ (t : List Text) (s : List ℕ) (at : ℕ) (h : IsOk (operand t s at)) w
   unfolding operand
   operand-name-in = text-in s at t isName (field _ _ (start h))
 
-  pub operand-index : IsOk (option u64 s (at + 2))
+  operand-behind : Goes (operand t s at) (two (option u64) (option slice) (λ i sl sp. record { name = (numberAt 2 s at); index = i; slice = sl; span = sp })) s (at + 2)
   unfolding operand
-  operand-index = field _ _ (known _ _ (at + 2) (text-is s at t isName) refl (start h))
+  operand-behind = known _ _ (at + 2) (text-is s at t isName) refl (start h)
+
+  pub operand-index : IsOk (option u64 s (at + 2))
+  operand-index = field _ _ operand-behind
 
   module _ (k : ℕ) (k-end : k ≡ nextOf (option u64 s (at + 2))) where
     pub operand-slice : IsOk (option slice s k)
-    unfolding operand
-    operand-slice = field _ _ (past _ _ none k k-end (known _ _ (at + 2) (text-is s at t isName) refl (start h)))
+    operand-slice = field _ _ (past _ _ none k k-end operand-behind)
 
     module _ (m : ℕ) (m-end : m ≡ nextOf (option slice s k)) where
       pub operand-is : operand t s at ≡ ok (record { name = (numberAt 2 s at); index = (valueOr none (option u64 s (at + 2))); slice = (valueOr none (option slice s k)); span = (spanAt s m) }) (m + 8)
-      unfolding operand
-      operand-is = ends _ (known _ _ (m + 8) (span-is s m) refl (past _ _ none m m-end (past _ _ none k k-end (known _ _ (at + 2) (text-is s at t isName) refl (start h)))))
+      operand-is = spanned-is _ (past _ _ none m m-end (past _ _ none k k-end operand-behind))
 
       pub operand-inside : m + 8 ≤ length s
       operand-inside = end-in operand-is (operand-end t s at h)
@@ -158,13 +161,15 @@ module _ (t : List Text) (s : List ℕ) (at : ℕ) (h : IsOk (forRange t s at)) 
         forRange-is = ends _ (past _ _ none n n-end (past _ _ blank m m-end (past _ _ blank k k-end (start h))))
 
 module _ (t : List Text) (s : List ℕ) (at : ℕ) (h : IsOk (param t s at)) where
-  pub param-name : numberAt 2 s (at + 1) < length t
+  param-behind : Goes (param t s at) (_>>=_ (name t) (λ x. done (typeOf (getD s at 0), x))) s (at + 1)
   unfolding param
-  param-name = text-below s (at + 1) t isName (field _ _ (known _ _ (at + 1) (type-is s at) refl (start h)))
+  param-behind = known _ _ (at + 1) (type-is s at) refl (start h)
+
+  pub param-named : Named t s at
+  param-named = named t at _ param-behind
 
   pub param-is : param t s at ≡ ok ((typeOf (getD s at 0)), (numberAt 2 s (at + 1))) (at + 3)
-  unfolding param
-  param-is = ends _ (known _ _ (at + 3) (text-is s (at + 1) t isName) (omega arith) (known _ _ (at + 1) (type-is s at) refl (start h)))
+  param-is = ends _ (past-name t at _ param-behind)
 
 module _ (t : List Text) (s : List ℕ) (at : ℕ) (h : IsOk (modifier t s at)) where
   pub modifier-in : at < length s
@@ -183,49 +188,46 @@ module _ (t : List Text) (s : List ℕ) (at : ℕ) (h : IsOk (modifier t s at)) 
   unfolding modifier
   modifier-goes c e = choice s at 4 _ (start h) c e
 
-  -- `ctrl`, with a count or without
-  module _ (b : getD s at 0 ≡ 0) where
-    pub ctrl-count : IsOk (option (held t) s (at + 1))
-    unfolding ctrl
-    ctrl-count = field _ _ (modifier-goes 0 b)
+  -- `ctrl` and `negctrl`, with a count or without
+  abbrev pub Control : Type 0
+  Control = (getD s at 0 ≡ 0) ⊎ (getD s at 0 ≡ 1)
 
-    module _ (k : ℕ) (k-end : k ≡ nextOf (option (held t) s (at + 1))) where
-      pub ctrl-is : modifier t s at ≡ ok (GateModifier.Ctrl (valueOr none (option (held t) s (at + 1))) (spanAt s k)) (k + 8)
-      unfolding ctrl
-      ctrl-is = ends _ (known _ _ (k + 8) (span-is s k) refl (past _ _ none k k-end (modifier-goes 0 b)))
+  pub control : (getD s at 0 ≡ 2 → ⊥) → (getD s at 0 ≡ 3 → ⊥) → Control
+  control n o = let u = modifier-below in one-of-two (getD s at 0) 0 (omega arith) (omega arith)
 
-      pub ctrl-inside : k + 8 ≤ length s
-      ctrl-inside = end-in ctrl-is (modifier-end)
+  unfoldable controlOf : Control → Option Expr → Span → GateModifier
+  controlOf (inl b) = GateModifier.Ctrl
+  controlOf (inr b) = GateModifier.NegCtrl
 
-  -- `negctrl`
-  module _ (b : getD s at 0 ≡ 1) where
-    pub negCtrl-count : IsOk (option (held t) s (at + 1))
-    unfolding negCtrl
-    negCtrl-count = field _ _ (modifier-goes 1 b)
+  control-goes : (b : Control) → Goes (modifier t s at) (one (option (held t)) (controlOf b)) s (at + 1)
+  unfolding ctrl negCtrl controlOf
+  control-goes (inl b) = modifier-goes 0 b
+  control-goes (inr b) = modifier-goes 1 b
 
-    module _ (k : ℕ) (k-end : k ≡ nextOf (option (held t) s (at + 1))) where
-      pub negCtrl-is : modifier t s at ≡ ok (GateModifier.NegCtrl (valueOr none (option (held t) s (at + 1))) (spanAt s k)) (k + 8)
-      unfolding negCtrl
-      negCtrl-is = ends _ (known _ _ (k + 8) (span-is s k) refl (past _ _ none k k-end (modifier-goes 1 b)))
+  abbrev ControlIs : (Option Expr → Span → GateModifier) → Type 0
+  ControlIs make = (k : ℕ) → k ≡ nextOf (option (held t) s (at + 1)) → modifier t s at ≡ ok (make (valueOr none (option (held t) s (at + 1))) (spanAt s k)) (k + 8)
 
-      pub negCtrl-inside : k + 8 ≤ length s
-      negCtrl-inside = end-in negCtrl-is (modifier-end)
+  control-is : (b : Control) → ControlIs (controlOf b)
+  control-is b k k-end = spanned-is _ (past _ _ none k k-end (control-goes b))
 
-  -- `ctrl` and `negctrl` have one shape
   module _ (n : getD s at 0 ≡ 2 → ⊥) (o : getD s at 0 ≡ 3 → ⊥) where
-    pub control : (getD s at 0 ≡ 0) ⊎ (getD s at 0 ≡ 1)
-    control = go (getD s at 0) n o modifier-below
-      where
-        go : (b : ℕ) → (b ≡ 2 → ⊥) → (b ≡ 3 → ⊥) → b < 4 → (b ≡ 0) ⊎ (b ≡ 1)
-        go zero n o l = inl refl
-        go (suc zero) n o l = inr refl
-        go (suc (suc b)) n o l = absurd (omega arith)
-
     pub control-count : IsOk (option (held t) s (at + 1))
-    control-count = ⊎-elim ctrl-count negCtrl-count control
+    control-count = field _ _ (control-goes (control n o))
 
-    pub control-inside : (k : ℕ) → k ≡ nextOf (option (held t) s (at + 1)) → k + 8 ≤ length s
-    control-inside k e = ⊎-elim (λ b. ctrl-inside b k e) (λ b. negCtrl-inside b k e) control
+    module _ (k : ℕ) (k-end : k ≡ nextOf (option (held t) s (at + 1))) where
+      pub control-next : k + 8 ≡ nextOf (modifier t s at)
+      control-next = sym (next-is (control-is (control n o) k k-end))
+
+      pub control-inside : k + 8 ≤ length s
+      control-inside = end-in (control-is (control n o) k k-end) modifier-end
+
+  pub ctrl-is : getD s at 0 ≡ 0 → ControlIs GateModifier.Ctrl
+  unfolding controlOf
+  ctrl-is b = control-is (inl b)
+
+  pub negCtrl-is : getD s at 0 ≡ 1 → ControlIs GateModifier.NegCtrl
+  unfolding controlOf
+  negCtrl-is b = control-is (inr b)
 
   -- `inv`
   module _ (b : getD s at 0 ≡ 2) where
@@ -234,18 +236,20 @@ module _ (t : List Text) (s : List ℕ) (at : ℕ) (h : IsOk (modifier t s at)) 
     inv-is = ends _ (known _ _ (at + 9) (span-is s (at + 1)) (omega arith) (modifier-goes 2 b))
 
     pub inv-inside : at + 9 ≤ length s
-    inv-inside = end-in inv-is (modifier-end)
+    inv-inside = end-in inv-is modifier-end
 
   -- `pow`
   module _ (b : getD s at 0 ≡ 3) where
-    pub pow-exponent : IsOk (held t s (at + 1))
+    pow-goes : Goes (modifier t s at) (one (held t) GateModifier.Pow) s (at + 1)
     unfolding pow
-    pow-exponent = field _ _ (modifier-goes 3 b)
+    pow-goes = modifier-goes 3 b
+
+    pub pow-exponent : IsOk (held t s (at + 1))
+    pow-exponent = field _ _ pow-goes
 
     module _ (k : ℕ) (k-end : k ≡ nextOf (held t s (at + 1))) where
       pub pow-is : modifier t s at ≡ ok (GateModifier.Pow (valueOr blank (held t s (at + 1))) (spanAt s k)) (k + 8)
-      unfolding pow
-      pow-is = ends _ (known _ _ (k + 8) (span-is s k) refl (past _ _ blank k k-end (modifier-goes 3 b)))
+      pow-is = spanned-is _ (past _ _ blank k k-end pow-goes)
 
       pub pow-inside : k + 8 ≤ length s
-      pow-inside = end-in pow-is (modifier-end)
+      pow-inside = end-in pow-is modifier-end

@@ -7,10 +7,12 @@ use lib.ListN.{getD, length}
 use Rattle.ast.specs.Tree.{Text, Expr}
 use Rattle.tree.specs.Ans.{Ans, ok, IsOk, nextOf}
 use Rattle.tree.specs.Exprs.{expr}
+use Rattle.tree.specs.Levels.{expr-levels}
 use Rattle.sema.specs.Exprs.{exprSpan}
 use Rattle.context.specs.View.{spanAt}
 use Rattle.accepted.specs.Cases.{blank}
 use Rattle.accepted.specs.Parts.{valueOr, next-is, value-is}
+use Rattle.accepted.specs.Levels.{level-below}
 use Rattle.accepted.specs.Exprs as of
 
 -- the span stands at a place, and the expression ends eight bytes behind it
@@ -38,7 +40,7 @@ module _ (t : List Text) (left : ℕ) (s : List ℕ) (at : ℕ) (h : IsOk (expr 
       go (suc (suc (suc (suc (suc (suc (suc zero))))))) e = ended-at _ (of.neg-is t left s at h e _ refl) refl refl
       go (suc (suc (suc (suc (suc (suc (suc (suc zero)))))))) e = ended-at _ (of.binary-is t left s at h e _ refl _ refl) refl refl
       go (suc (suc (suc (suc (suc (suc (suc (suc (suc zero))))))))) e = ended-at _ (of.compare-is t left s at h e _ refl _ refl) refl refl
-      go (suc (suc (suc (suc (suc (suc (suc (suc (suc (suc b)))))))))) e = let l = of.expr-below t left s at h in absurd (omega arith)
+      go (suc (suc (suc (suc (suc (suc (suc (suc (suc (suc b)))))))))) e = let l = level-below (expr-levels t) left s at h in absurd (omega arith)
 
   module _ (k : ℕ) (e : k ≡ nextOf (expr t left s at)) where
     pub span-here : spanAt s (k - 8) ≡ exprSpan (valueOr blank (expr t left s at))

@@ -94,7 +94,7 @@ pub fn skip_operands(s: &[u8], at: usize) -> usize
     k
 }
 
-fn skip_modifier(s: &[u8], at: usize) -> usize
+pub fn skip_modifier(s: &[u8], at: usize) -> usize
     requires { ⌜ IsOk (modifier (textsOf (now s)) (now s) at) ⌝ }
     ensures { λ r. ⌜ r ≡ nextOf (modifier (textsOf (now (s .entry))) (now (s .entry)) at) ⌝ }
 {

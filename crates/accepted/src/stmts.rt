@@ -4,6 +4,7 @@ ghost use lib.ListN.{getD};
 ghost use Rattle.tree.specs.Ans.{IsOk, nextOf};
 ghost use Rattle.tree.specs.Stmts.{body, elseBody, stmt};
 ghost use Rattle.tree.specs.Decode.{textsOf};
+ghost use Rattle.accepted.specs.Compound.{Compound, bodyPlace};
 use crate::exprs::skip_expr;
 use crate::exprs::skip_exprs;
 use crate::exprs::skip_option_expr;
@@ -31,15 +32,13 @@ fn skip_stmt(s: &[u8], at: usize, left: usize) -> usize
         3 => skip_classical_decl(s, at, left),
         4 => skip_expr(s, at + 4, 32) + 8,
         5 => skip_gate_call(s, at, left),
-        6 => skip_gate_def(s, at, left),
+        6 => skip_compound(s, at, left),
         7 => skip_function_def(s, at, left),
         8 => skip_measure(s, at, left),
         9 => skip_operand(s, at + 1) + 8,
         10 => skip_operands(s, at + 1) + 8,
         11 => skip_delay(s, at, left),
-        12 => skip_if(s, at, left),
-        13 => skip_for(s, at, left),
-        _ => skip_while(s, at, left),
+        _ => skip_compound(s, at, left),
     }
 }
 
@@ -58,15 +57,6 @@ fn skip_gate_call(s: &[u8], at: usize, left: usize) -> usize
     let k = skip_modifiers(s, at + 3);
     let m = skip_exprs(s, k, 32);
     skip_operands(s, m) + 8
-}
-
-fn skip_gate_def(s: &[u8], at: usize, left: usize) -> usize
-    requires { ⌜ IsOk (stmt (textsOf (now s)) left (now s) at) × (getD (now s) at 0 ≡ 6) ⌝ }
-    ensures { λ r. ⌜ r ≡ nextOf (stmt (textsOf (now (s .entry))) left (now (s .entry)) at) ⌝ }
-{
-    let k = skip_names(s, at + 3);
-    let m = skip_names(s, k);
-    skip_body(s, m, left - 1) + 8
 }
 
 fn skip_function_def(s: &[u8], at: usize, left: usize) -> usize
@@ -93,29 +83,32 @@ fn skip_delay(s: &[u8], at: usize, left: usize) -> usize
     skip_operands(s, k) + 8
 }
 
-fn skip_if(s: &[u8], at: usize, left: usize) -> usize
-    requires { ⌜ IsOk (stmt (textsOf (now s)) left (now s) at) × (getD (now s) at 0 ≡ 12) ⌝ }
+// The place of the body of a gate definition, an `if` or a loop.
+fn body_place(s: &[u8], at: usize, left: usize) -> usize
+    requires { ⌜ IsOk (stmt (textsOf (now s)) left (now s) at) × Compound (getD (now s) at 0) ⌝ }
+    ensures { λ r. ⌜ r ≡ bodyPlace (textsOf (now (s .entry))) (now (s .entry)) at ⌝ }
+{
+    match s[at] {
+        6 => {
+            let k = skip_names(s, at + 3);
+            skip_names(s, k)
+        }
+        13 => skip_range(s, at + 4),
+        _ => skip_expr(s, at + 1, 32),
+    }
+}
+
+// Past a gate definition, an `if` or a loop.
+fn skip_compound(s: &[u8], at: usize, left: usize) -> usize
+    requires { ⌜ IsOk (stmt (textsOf (now s)) left (now s) at) × Compound (getD (now s) at 0) ⌝ }
     ensures { λ r. ⌜ r ≡ nextOf (stmt (textsOf (now (s .entry))) left (now (s .entry)) at) ⌝ }
 {
-    let k = skip_expr(s, at + 1, 32);
+    let k = body_place(s, at, left);
     let m = skip_body(s, k, left - 1);
-    skip_else(s, m, left - 1) + 8
-}
-
-fn skip_for(s: &[u8], at: usize, left: usize) -> usize
-    requires { ⌜ IsOk (stmt (textsOf (now s)) left (now s) at) × (getD (now s) at 0 ≡ 13) ⌝ }
-    ensures { λ r. ⌜ r ≡ nextOf (stmt (textsOf (now (s .entry))) left (now (s .entry)) at) ⌝ }
-{
-    let k = skip_range(s, at + 4);
-    skip_body(s, k, left - 1) + 8
-}
-
-fn skip_while(s: &[u8], at: usize, left: usize) -> usize
-    requires { ⌜ IsOk (stmt (textsOf (now s)) left (now s) at) × (getD (now s) at 0 ≡ 14) ⌝ }
-    ensures { λ r. ⌜ r ≡ nextOf (stmt (textsOf (now (s .entry))) left (now (s .entry)) at) ⌝ }
-{
-    let k = skip_expr(s, at + 1, 32);
-    skip_body(s, k, left - 1) + 8
+    if s[at] == 12 {
+        return skip_else(s, m, left - 1) + 8;
+    }
+    m + 8
 }
 
 // The place past a body whose statements have so many levels left.

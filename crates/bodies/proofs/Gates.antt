@@ -24,7 +24,7 @@ use Rattle.lines.specs.declared.Diagnostic.{Diagnostic}
 use Rattle.lines.specs.Values.{errorOf, Reported}
 use Rattle.tables.specs.Tables.{Becomes, GateDefined}
 use Rattle.accepted.specs.Parts.{valueOr}
-use Rattle.accepted.specs.Stmts.{gateDef-name}
+use Rattle.accepted.specs.Stmts.{gateDef-named}
 use Rattle.promises.specs.Emitted.{Emitted, emitted-none, emitted-report}
 use Rattle.bodies.specs.declared.gate_defs.GateParts.{GateParts}
 use Rattle.bodies.specs.Opened.{gateQubits, gateKnown, GateOpened}
@@ -34,7 +34,7 @@ use Rattle.bodies.specs.Parts.{GatePartsOf, GateEntered}
 pub parts-of : (tree : List ℕ) (left at x k m n : ℕ) (sp : Span) → IsOk (stmt (textsOf tree) left tree at) → getD tree at 0 ≡ 6 → x ≡ numberAt 2 tree (at + 1) → k ≡ gateQubits tree left at → m ≡ nextOf (vec (name (textsOf tree)) tree k) → n ≡ nextOf (body (stmt (textsOf tree) (left - 1)) tree m) → sp ≡ spanAt tree n → GatePartsOf tree left at (record { name = x; «qubits_at» = k; «body_at» = m; span = sp })
 parts-of tree left at x k m n sp h b x-is k-is m-is n-is sp-is = record {
   name-is = x-is;
-  named = rw x-is (gateDef-name (textsOf tree) left tree at h b);
+  named = rw x-is (gateDef-named (textsOf tree) left tree at h b .below);
   qubits-are = k-is;
   body-is = cc;
   span-is = cc;

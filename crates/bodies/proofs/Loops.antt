@@ -31,7 +31,7 @@ use Rattle.accepted.specs.Parts.{given-ok, given-is}
 use Rattle.accepted.specs.Fields.{option-none, option-some, option-held}
 use Rattle.accepted.specs.Exprs.{expr-in}
 use Rattle.accepted.specs.Operands.{forRange-start, forRange-end, forRange-step, forRange-is}
-use Rattle.accepted.specs.Stmts.{forLoop-name}
+use Rattle.accepted.specs.Stmts.{forLoop-named}
 use Rattle.promises.specs.Emitted.{Emitted, emitted-none, emitted-then, emitted-as, unless-holds, emitted-report}
 use Rattle.promises.specs.Typings.{SaidOf, plainContext}
 use Rattle.bodies.specs.declared.for_loops.ForParts.{ForParts}
@@ -45,7 +45,7 @@ range-in t s at h = expr-in t 32 s at (forRange-start t s at h)
 pub parts-of : (tree : List ℕ) (left at x m n : ℕ) (ty : ClassicalType) (sp : Span) → IsOk (stmt (textsOf tree) left tree at) → getD tree at 0 ≡ 13 → x ≡ numberAt 2 tree (at + 1) → ty ≡ typeOf (getD tree (at + 3) 0) → m ≡ forBody tree left at → n ≡ nextOf (body (stmt (textsOf tree) (left - 1)) tree m) → sp ≡ spanAt tree n → ForPartsOf tree left at (record { name = x; ty = ty; «body_at» = m; span = sp })
 parts-of tree left at x m n ty sp h b x-is ty-is m-is n-is sp-is = record {
   name-is = x-is;
-  named = rw x-is (forLoop-name (textsOf tree) left tree at h b);
+  named = rw x-is (forLoop-named (textsOf tree) left tree at h b .below);
   type-is = ty-is;
   body-is = m-is;
   span-is = cc;

@@ -14,9 +14,11 @@ use Rattle.int128.specs.Whole.{int128}
 use Rattle.ast.specs.Tree.{Text}
 use Rattle.tree.specs.Ans.{IsOk, nextOf, given}
 use Rattle.tree.specs.Exprs.{expr}
+use Rattle.tree.specs.Levels.{expr-levels}
 use Rattle.context.specs.View.{numberAt}
 use Rattle.sema.specs.Constants.{andThen, within, evalConstInt}
 use Rattle.accepted.specs.Parts.{next-is, given-is}
+use Rattle.accepted.specs.Levels.{level-below}
 use Rattle.accepted.specs.Exprs as of
 use Rattle.constants.specs.declared.Evaluated.{Evaluated}
 use Rattle.constants.specs.Views.{wholeOf, combined, ValueOf}
@@ -66,7 +68,7 @@ module _ (t : List Text) (left : ℕ) (s : List ℕ) (at : ℕ) (h : IsOk (expr 
   no-value (suc (suc (suc (suc (suc (suc (suc zero))))))) e i n o = absurd (n refl)
   no-value (suc (suc (suc (suc (suc (suc (suc (suc zero)))))))) e i n o = absurd (o refl)
   no-value (suc (suc (suc (suc (suc (suc (suc (suc (suc zero))))))))) e i n o = given-is (of.compare-is t left s at h e _ refl _ refl) none evalConstInt
-  no-value (suc (suc (suc (suc (suc (suc (suc (suc (suc (suc b)))))))))) e i n o = let l = of.expr-below t left s at h in absurd (omega arith)
+  no-value (suc (suc (suc (suc (suc (suc (suc (suc (suc (suc b)))))))))) e i n o = let l = level-below (expr-levels t) left s at h in absurd (omega arith)
 
   pub other-value : (getD s at 0 ≡ 0 → ⊥) → (getD s at 0 ≡ 7 → ⊥) → (getD s at 0 ≡ 8 → ⊥) → (k : ℕ) → k ≡ nextOf (expr t left s at) → ValueOf (expr t left s at) (record { value = Checked.None; next = k })
   unfolding wholeOf

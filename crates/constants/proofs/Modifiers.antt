@@ -4,13 +4,14 @@ use mathlib.Core.Path.{_≡_, refl, sym, ap, _∙_}
 use mathlib.Core.List.{List, [], _∷_}
 use mathlib.Core.Option.{Option, none}
 use mathlib.Core.Logic.{⊎-elim}
-use lib.ListN.{getD}
+use native.Mathlib.Omega.{arith}
+use lib.ListN.{length, getD}
 use Rattle.ast.specs.Tree.{Text, Expr, GateModifier}
 use Rattle.tree.specs.Ans.{IsOk, nextOf, given}
 use Rattle.tree.specs.Read.{option, repeat, vec}
 use Rattle.tree.specs.Stmts.{held, modifier}
 use Rattle.sema.specs.Constants.{andThen, asCount, countOf, addControls, modifierControlCount}
-use Rattle.accepted.specs.Cases.{blank, blankModifier}
+use Rattle.accepted.specs.Cases.{one-of-two, blank, blankModifier}
 use Rattle.accepted.specs.Parts.{valueOr, next-is, value-is, given-ok, given-is}
 use Rattle.accepted.specs.Fields.{option-none, option-some, option-held, counted-is, repeat-none, repeat-first, repeat-is}
 use Rattle.accepted.specs.Remains.{Remains, remains-start, remains-more, remains-end}
@@ -20,6 +21,14 @@ use Rattle.constants.specs.declared.Total.{Total}
 use Rattle.constants.specs.declared.Controls.{Controls}
 use Rattle.constants.specs.Views.{wholeOf, totalOf, added, ValueOf, Counted, Added, TotalOf}
 use Rattle.constants.specs.Laws.{value-of}
+
+-- a control
+module _ (t : List Text) (s : List ℕ) (at : ℕ) (h : IsOk (modifier t s at)) (l : getD s at 0 < 2) where
+  pub control-count : IsOk (option (held t) s (at + 1))
+  control-count = of.control-count t s at h (λ e. omega arith) (λ e. omega arith)
+
+  pub control-inside : (k : ℕ) → k ≡ nextOf (option (held t) s (at + 1)) → k + 8 ≤ length s
+  control-inside = of.control-inside t s at h (λ e. omega arith) (λ e. omega arith)
 
 module _ (t : List Text) (s : List ℕ) (at : ℕ) (before : Total) where
   -- the count of a control
@@ -45,29 +54,23 @@ module _ (t : List Text) (s : List ℕ) (at : ℕ) (before : Total) where
   with-modifier m = addControls (totalOf before) (m ∷ [])
 
   module _ (h : IsOk (modifier t s at)) where
-    pub added-inv : getD s at 0 ≡ 2 → Added before (modifier t s at) (record { total = before; next = at + 9 })
+    -- `inv` and `pow` add none
+    pub added-none : 2 ≤ getD s at 0 → (k : ℕ) → k ≡ nextOf (modifier t s at) → Added before (modifier t s at) (record { total = before; next = k })
     unfolding addControls
-    added-inv b =
-        let is = of.inv-is t s at h b in
-        record { next = sym (next-is is); total = sym (given-is is none with-modifier) }
+    added-none l k e = ⊎-elim
+        (λ b. record { next = e; total = sym (given-is (of.inv-is t s at h b) none with-modifier) })
+        (λ b. record { next = e; total = sym (given-is (of.pow-is t s at h b _ refl) none with-modifier) })
+        (one-of-two (getD s at 0) 2 l (of.modifier-below t s at h))
 
-    pub added-pow : getD s at 0 ≡ 3 → (k : ℕ) → k ≡ nextOf (held t s (at + 1)) → Added before (modifier t s at) (record { total = before; next = k + 8 })
-    unfolding addControls
-    added-pow b k e =
-        let is = of.pow-is t s at h b k e in
-        record { next = sym (next-is is); total = sym (given-is is none with-modifier) }
-
-    -- `ctrl` and `negctrl` have one shape
-    module _ (n : getD s at 0 ≡ 2 → ⊥) (o : getD s at 0 ≡ 3 → ⊥) where
-      module _ (c : Controls) (p : Counted before (option (held t) s (at + 1)) c) where
-        pub added-control : Added before (modifier t s at) (record { total = c .total; next = c .next + 8 })
-        unfolding addControls added
-        added-control =
-            let sum = p .total ∙ given-ok none none with-count _ (of.control-count t s at h n o) in
-            ⊎-elim
-            (λ b. let is = of.ctrl-is t s at h b _ (p .next) in record { next = sym (next-is is); total = sum ∙ sym (given-is is none with-modifier) })
-            (λ b. let is = of.negCtrl-is t s at h b _ (p .next) in record { next = sym (next-is is); total = sum ∙ sym (given-is is none with-modifier) })
-            (of.control t s at h n o)
+    module _ (l : getD s at 0 < 2) (c : Controls) (p : Counted before (option (held t) s (at + 1)) c) where
+      pub added-control : Added before (modifier t s at) (record { total = c .total; next = c .next + 8 })
+      unfolding addControls added
+      added-control =
+          let sum = p .total ∙ given-ok none none with-count _ (control-count t s at h l) in
+          ⊎-elim
+          (λ b. let is = of.ctrl-is t s at h b _ (p .next) in record { next = sym (next-is is); total = sum ∙ sym (given-is is none with-modifier) })
+          (λ b. let is = of.negCtrl-is t s at h b _ (p .next) in record { next = sym (next-is is); total = sum ∙ sym (given-is is none with-modifier) })
+          (of.control t s at h (λ e. omega arith) (λ e. omega arith))
 
 -- one modifier, and those behind it
 add-step : (o : Option ℕ) (m : GateModifier) (ms : List GateModifier) → addControls o (m ∷ ms) ≡ addControls (addControls o (m ∷ [])) ms

@@ -12,6 +12,7 @@ ghost use Rattle.accepted.specs.Cases.{binOpOf};
 ghost use Rattle.constants.specs.Views.{wholeOf, totalOf, combined, added, isCount, ValueOf, Counted, Added, TotalOf};
 use accepted::exprs::skip_expr;
 use accepted::numbers::u64_at;
+use accepted::parts::skip_modifier;
 use int128::Checked;
 use int128::Int128;
 use int128::Word;
@@ -170,23 +171,17 @@ fn add_modifier(tree: &[u8], at: usize, total: Total) -> Controls
     requires { ⌜ IsOk (modifier (textsOf (now tree)) (now tree) at) ⌝ }
     ensures { λ r. ⌜ Added total (modifier (textsOf (now (tree .entry))) (now (tree .entry)) at) r ⌝ }
 {
-    match tree[at] {
-        2 => Controls {
-            total,
-            next: at + 9,
-        },
-        3 => Controls {
-            total,
-            next: skip_expr(tree, at + 1, 32) + 8,
-        },
-        _ => {
-            let c = add_control(tree, at + 1, total);
-            let sum = c.total;
-            Controls {
-                total: sum,
-                next: c.next + 8,
-            }
-        }
+    if tree[at] < 2 {
+        let c = add_control(tree, at + 1, total);
+        let sum = c.total;
+        return Controls {
+            total: sum,
+            next: c.next + 8,
+        };
+    }
+    Controls {
+        total,
+        next: skip_modifier(tree, at),
     }
 }
 

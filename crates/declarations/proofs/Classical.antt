@@ -12,13 +12,13 @@ use Rattle.span.specs.declared.Span.{Span}
 use Rattle.ast.specs.Tree.{Text, Expr}
 use Rattle.ast.specs.declared.ClassicalType.{ClassicalType}
 use Rattle.ast.specs.declared.ClassicalQualifier.{ClassicalQualifier}
-use Rattle.tree.specs.Ans.{IsOk, nextOf, given}
+use Rattle.tree.specs.Ans.{IsOk, nextOf}
 use Rattle.tree.specs.Read.{option}
 use Rattle.tree.specs.Stmts.{qualifier, held, stmt}
 use Rattle.tree.specs.Decode.{textsOf}
 use Rattle.sema.specs.Messages
 use Rattle.sema.specs.Messages.{error}
-use Rattle.sema.specs.Symbols.{Symbols, FunctionSig, Table, declare, declareSays, after}
+use Rattle.sema.specs.Symbols.{Symbols, FunctionSig, Table, declareSays, after}
 use Rattle.sema.specs.Marks.{effect}
 use Rattle.sema.specs.Operands.{isSome, unless}
 use Rattle.sema.specs.Exprs.{mismatch}
@@ -33,8 +33,8 @@ use Rattle.context.specs.declared.Typing.{Typing}
 use Rattle.context.specs.declared.Symbol.{Symbol as SymbolValue}
 use Rattle.context.specs.declared.State.{State}
 use Rattle.context.specs.Sink.{SinkFits}
-use Rattle.context.specs.Values.{numberOf, kindOf, typedOf}
-use Rattle.context.specs.View.{spanAt, typeOf, scopesOf, functionsOf, stmtSpan}
+use Rattle.context.specs.Values.{typedOf}
+use Rattle.context.specs.View.{spanAt, typeOf, scopesOf, functionsOf}
 use Rattle.lines.specs.declared.Message.{Message}
 use Rattle.lines.specs.Values.{diagnosticOf, errorOf}
 use Rattle.tables.specs.Laws.{few-after}
@@ -45,7 +45,7 @@ use Rattle.promises.specs.WalkLaws.{marks-kept, context-is}
 use Rattle.declarations.specs.Says.{qualifierCode, codeSays, classicalRest}
 use Rattle.declarations.specs.Checked.{Declared, initAt}
 use Rattle.declarations.proofs.Sayings.{silent}
-use Rattle.declarations.proofs.Declares.{changed-walked, after-is, name-is, span-is, becomes-as}
+use Rattle.declarations.proofs.Declares.{Declares, Spans, changed-walked, after-is, name-is, span-is, becomes-as}
 use Rattle.declarations.proofs.Targets.{checked-mismatch}
 
 -- a qualifier by its bytes
@@ -142,8 +142,8 @@ classical-says c q ty init a b d e = rw (a, b, d, e)
 
 module _ (tree index : List ℕ) (keys left : ℕ) (st : State) (h : IsOk (stmt (textsOf tree) left tree (st .at))) (b : getD tree (st .at) 0 ≡ 3) {s o : List ℕ} {s₁ : Sink} {o₁ : List ℕ} {r : Sink} {s′ o′ : List ℕ} (x : ℕ) (symbol : SymbolValue) (ready : Ready tree s st)
     (end : ℕ) (next : end ≡ nextOf (stmt (textsOf tree) left tree (st .at)))
-    (declares : (ss : Symbols) → given ss (λ st. after ss st) (stmt (textsOf tree) left tree (st .at)) ≡ declare ss x (kindOf (symbol .kind)) (numberOf (symbol .size)) (symbol .«decl_span»))
-    (spanned : given (symbol .«decl_span») stmtSpan (stmt (textsOf tree) left tree (st .at)) ≡ symbol .«decl_span»)
+    (declares : Declares (stmt (textsOf tree) left tree (st .at)) x symbol)
+    (spanned : Spans (stmt (textsOf tree) left tree (st .at)) symbol)
     (d : Declared (textsOf tree) (9 - left) x symbol (st .sink) s o s₁ s′ o₁) where
   pub classical-walked : Emitted (textsOf tree) (classicalRest (scopesOf s′ (9 - left)) (functionsOf s′) (valueOr none (option qualifier tree (st .at + 1))) (typeOf (getD tree (nextOf (option qualifier tree (st .at + 1))) 0)) x (initAt tree (nextOf (option qualifier tree (st .at + 1)) + 3)) (symbol .«decl_span»)) s₁ o₁ r o′ → StmtWalked tree index keys left st s o (stateOf end r (st .marks)) s′ o′
   unfolding analyzeStmt after effect

@@ -77,8 +77,15 @@ same-name x y k l m n sp sq e = by (eqb y x) refl (rw (eq-eqb x x refl) at (ap (
     by true f g = eqb-true y x f
     by false f g = let z : _≡_ {A = ℕ} 0 1 = cc in absurd (omega arith)
 
+-- the statement read declares x with this symbol, and the symbol's span is its own
+abbrev pub Declares : Ans Stmt → ℕ → SymbolValue → Type 0
+Declares X x symbol = (ss : Symbols) → given ss (λ st. after ss st) X ≡ declare ss x (kindOf (symbol .kind)) (numberOf (symbol .size)) (symbol .«decl_span»)
+
+abbrev pub Spans : Ans Stmt → SymbolValue → Type 0
+Spans X symbol = given (symbol .«decl_span») stmtSpan X ≡ symbol .«decl_span»
+
 -- the statement X was read as S and declares x with this symbol
-module _ {X : Ans Stmt} (x : ℕ) (symbol : SymbolValue) (declares : (ss : Symbols) → given ss (λ st. after ss st) X ≡ declare ss x (kindOf (symbol .kind)) (numberOf (symbol .size)) (symbol .«decl_span»)) (spanned : given (symbol .«decl_span») stmtSpan X ≡ symbol .«decl_span») {S : Stmt} {k : ℕ} (is : X ≡ ok S k) where
+module _ {X : Ans Stmt} (x : ℕ) (symbol : SymbolValue) (declares : Declares X x symbol) (spanned : Spans X symbol) {S : Stmt} {k : ℕ} (is : X ≡ ok S k) where
   pub after-is : (ss : Symbols) → declare ss x (kindOf (symbol .kind)) (numberOf (symbol .size)) (symbol .«decl_span») ≡ after ss S
   after-is ss = sym (declares ss) ∙ given-is is ss (λ st. after ss st)
 
@@ -104,8 +111,8 @@ becomes-as e b = rw (← e) b
 
 module _ (tree index : List ℕ) (keys left : ℕ) (st : State) (h : IsOk (stmt (textsOf tree) left tree (st .at))) {s o : List ℕ} {r : Sink} {s′ o′ : List ℕ} (x : ℕ) (symbol : SymbolValue) (ready : Ready tree s st)
     (end : ℕ) (next : end ≡ nextOf (stmt (textsOf tree) left tree (st .at)))
-    (declares : (ss : Symbols) → given ss (λ st. after ss st) (stmt (textsOf tree) left tree (st .at)) ≡ declare ss x (kindOf (symbol .kind)) (numberOf (symbol .size)) (symbol .«decl_span»))
-    (spanned : given (symbol .«decl_span») stmtSpan (stmt (textsOf tree) left tree (st .at)) ≡ symbol .«decl_span»)
+    (declares : Declares (stmt (textsOf tree) left tree (st .at)) x symbol)
+    (spanned : Spans (stmt (textsOf tree) left tree (st .at)) symbol)
     (d : Declared (textsOf tree) (9 - left) x symbol (st .sink) s o r s′ o′) where
   registers : (b : ℕ) → getD tree (st .at) 0 ≡ b → 0 < b → b < 3 → StmtWalked tree index keys left st s o (stateOf end r (st .marks)) s′ o′
   unfolding analyzeStmt after effect

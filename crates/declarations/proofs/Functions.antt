@@ -20,7 +20,7 @@ use Rattle.sema.specs.Exprs.{mismatch}
 use Rattle.sema.specs.Stmts.{SemaContext, defineFunction, functionSays, analyzeStmt}
 use Rattle.accepted.specs.Parts.{ok-is}
 use Rattle.accepted.specs.Fields.{counted-in, counted-few, counted-is}
-use Rattle.accepted.specs.Stmts.{functionDef-name, functionDef-params, functionDef-body, functionDef-is}
+use Rattle.accepted.specs.Stmts.{functionDef-named, functionDef-params, functionDef-body, functionDef-is}
 use Rattle.context.specs.declared.Sink.{Sink}
 use Rattle.context.specs.declared.Typing.{Typing}
 use Rattle.context.specs.declared.FunctionSig.{FunctionSig as FunctionValue}
@@ -48,7 +48,7 @@ pub function-at : (tree : List ℕ) (left at : ℕ) → IsOk (stmt (textsOf tree
 function-at tree left at h b k k-end m m-end x e ty f sp g =
     record {
       is = rw (e, f, g) (functionDef-is (textsOf tree) left tree at h b k k-end m m-end);
-      named = rw e (functionDef-name (textsOf tree) left tree at h b);
+      named = rw e (functionDef-named (textsOf tree) left tree at h b .below);
       params = functionDef-params (textsOf tree) left tree at h b;
       body = functionDef-body (textsOf tree) left tree at h b k k-end;
     }

@@ -88,6 +88,8 @@ module _ (u v : ℕ) (hu : u < 18446744073709551616) (hv : v < 18446744073709551
   pub product-is : both (u / 4294967296 * (v / 4294967296) + (u / 4294967296 * (v % 4294967296) + u % 4294967296 * (v % 4294967296) / 4294967296) / 4294967296 + ((u / 4294967296 * (v % 4294967296) + u % 4294967296 * (v % 4294967296) / 4294967296) % 4294967296 + u % 4294967296 * (v / 4294967296)) / 4294967296) (((u / 4294967296 * (v % 4294967296) + u % 4294967296 * (v % 4294967296) / 4294967296) % 4294967296 + u % 4294967296 * (v / 4294967296)) % 4294967296 * 4294967296 + u % 4294967296 * (v % 4294967296) % 4294967296) ≡ u * v
   product-is = columns _ _ _ _ ∙ whole
 
+pub ruleset halves = (fits-w0, fits-p10, fits-p01, fits-p11, fits-t, fits-w1, fits-h, fits-hi, product-is)
+
 -- a magnitude times a word, from the products of its two words
 words-times : (ah al b ph pl : ℕ) → both ph pl ≡ al * b → both ah al * b ≡ both (ah * b + ph) pl
 words-times ah al b ph pl e =

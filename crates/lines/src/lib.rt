@@ -174,6 +174,7 @@ fn line<'a>(
     requires { ⌜ (n < 1048576) × Lent (now wording) (now places) × TextsAt (now tree) (now index) × Named (now tree) (now index) p ⌝ }
     ensures { λ r. ⌜ Said (now (out .entry)) n (now (out .exit)) r (lineText (textsOf (now (tree .entry))) letter span p) 512 ⌝ }
 {
+    let tree = &tree[..];
     let a = pieces::head(out, n, letter, span);
     let b = pieces::write(out, a, tree, index, wording, places, p);
     pieces::copy(out, b, b"\n")
@@ -261,6 +262,7 @@ pub fn report(out: &mut [u8], sink: Sink, tree: &[u8], index: &Index, d: Diagnos
     requires { ⌜ TextsAt (now tree) (now index) × Fits (length (textsOf (now tree))) d × SinkFits sink ⌝ }
     ensures { λ r. ⌜ Reported (textsOf (now (tree .entry))) d sink (now (out .entry)) r (now (out .exit)) ⌝ }
 {
+    let tree = &tree[..];
     let n = sink.n as usize;
     let errors = sink.errors;
     let warnings = sink.warnings;

@@ -53,6 +53,8 @@ pub fn check_operand(
     requires { ⌜ TextsAt (now tree) (now index) × (65536 ≤ length (now scratch)) × (depth ≤ 9) × (op .name < length (textsOf (now tree))) × SinkFits sink ⌝ }
     ensures { λ r. ⌜ Emitted (textsOf (now (tree .entry))) (checkOperand (scopesOf (now (scratch .entry)) depth) (operandOf op) (expectedOf expected)) sink (now (out .entry)) r (now (out .exit)) ⌝ }
 {
+    let scratch = &scratch[..];
+    let tree = &tree[..];
     let FoundSymbol::Some(symbol) = tables::get(scratch, depth, op.name) else {
         return lines::report(
             out,
@@ -203,6 +205,7 @@ pub fn use_operands(
     requires { ⌜ TextsAt (now tree) (now index) × (65536 ≤ length (now scratch)) × (depth ≤ 9) × Indexed (now index) keys × Distinct (keysIn (now index) keys) × Placed (now tree) (now marks) × IsOk (vec (operand (textsOf (now tree))) (now tree) at) × SinkFits sink ⌝ }
     ensures { λ r. ⌜ Emitted (textsOf (now (tree .entry))) (given [] (useOperands (scopesOf (now (scratch .entry)) depth) (marksOf (now (tree .entry)) (keysIn (now (index .entry)) keys) (now (marks .entry))) span) (vec (operand (textsOf (now (tree .entry)))) (now (tree .entry)) at)) sink (now (out .entry)) r (now (out .exit)) ⌝ }
 {
+    let scratch = &scratch[..];
     let tree = &tree[..]; // pointer and length are loaded one by one, and not waited for as a pair
     let mut n = wide(tree[at]);
     let mut k = at + 1;

@@ -24,7 +24,7 @@ use Rattle.context.specs.declared.After.{After}
 use Rattle.context.specs.declared.State.{State}
 use Rattle.context.specs.View.{scopesOf, gatesOf, functionsOf, keysIn, marksOf, contextOf}
 use Rattle.accepted.specs.Parts.{valueOr, given-ok}
-use Rattle.accepted.specs.Stmts.{gateCall-name, gateCall-params, gateCall-args, gateCall-is, gateCall-inside}
+use Rattle.accepted.specs.Stmts.{gateCall-named, gateCall-params, gateCall-args, gateCall-is, gateCall-inside}
 use Rattle.promises.specs.Emitted.{Emitted, emitted-as, emitted-then}
 use Rattle.promises.specs.Typings.{SaidOf, plainContext}
 use Rattle.promises.specs.Walks.{stateOf, Ready, StmtWalked}
@@ -77,7 +77,7 @@ module _ (t : List Text) (c : Call) (ps : Exprs) (ms : List GateModifier) (ops :
 
 module _ (tree : List ℕ) (left at : ℕ) (h : IsOk (stmt (textsOf tree) left tree at)) (b : getD tree at 0 ≡ 5) (c : Call) (co : CallOf (textsOf tree) tree at c) where
   pub call-name : c .name < length (textsOf tree)
-  call-name = rw (co .name) (gateCall-name (textsOf tree) left tree at h b)
+  call-name = rw (co .name) (gateCall-named (textsOf tree) left tree at h b .below)
 
   pub call-params : IsOk (exprs (held (textsOf tree)) tree (nextOf (vec (modifier (textsOf tree)) tree (at + 3))))
   call-params = gateCall-params (textsOf tree) left tree at h b _ refl

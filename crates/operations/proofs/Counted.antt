@@ -1,29 +1,24 @@
 -- The parts of a gate call as they are read: how many they are, and where they stand. Assumes nothing.
 use Prim.Native.Nat.{ℕ, _+_}
-use mathlib.Core.Path.{_≡_, refl, sym, ap, _∙_}
+use mathlib.Core.Path.{_≡_, sym, ap, _∙_}
 use mathlib.Core.List.{List}
 use lib.ListN.{getD}
 use Rattle.span.specs.declared.Span.{Span}
-use Rattle.ast.specs.Tree.{Text, noExpr, moreExpr, exprCount}
+use Rattle.ast.specs.Tree.{Text}
 use Rattle.tree.specs.Ans.{IsOk, nextOf}
 use Rattle.tree.specs.Read.{vec}
 use Rattle.tree.specs.Exprs.{exprs}
 use Rattle.tree.specs.Stmts.{held, modifier, operand, stmt}
 use Rattle.sema.specs.Constants.{controls, or0}
 use Rattle.context.specs.View.{numberAt, spanAt}
-use Rattle.accepted.specs.Cases.{blank, blankOperand}
-use Rattle.accepted.specs.Parts.{valueOr}
-use Rattle.accepted.specs.Counts.{counted-size, vec-size}
+use Rattle.accepted.specs.Cases.{blankOperand}
+use Rattle.accepted.specs.Counts.{vec-size, exprs-size}
 use Rattle.accepted.specs.Stmts.{gateCall-modifiers, gateCall-params, gateCall-args}
 use Rattle.constants.specs.declared.Total.{Total}
 use Rattle.constants.specs.declared.Controls.{Controls}
 use Rattle.constants.specs.Views.{totalOf, TotalOf}
 use Rattle.constants.specs.Laws.{total-of}
 use Rattle.operations.specs.Calls.{CallOf}
-
-exprs-size : (t : List Text) (s : List ℕ) (at : ℕ) → IsOk (exprs (held t) s at) → exprCount (valueOr noExpr (exprs (held t) s at)) ≡ getD s at 0
-unfolding exprCount
-exprs-size t s at h = counted-size noExpr moreExpr (held t) blank exprCount refl (λ a b. refl) s at h
 
 -- a total, or 0
 module _ {c : Total} where
@@ -51,7 +46,7 @@ module _ (t : List Text) (left : ℕ) (s : List ℕ) (at : ℕ) (h : IsOk (stmt 
         args-at = e;
         end = f;
         span = l;
-        params = i ∙ sym (exprs-size t s (c .next) ps);
+        params = i ∙ sym (exprs-size (held t) s (c .next) ps);
         args = j ∙ sym (vec-size blankOperand (operand t) s m ops);
         controls = k ∙ ap or0 (total-of _ c ms p);
       }

@@ -15,6 +15,7 @@ use Rattle.tree.specs.Read.{option}
 use Rattle.tree.specs.Texts.{texts}
 use Rattle.tree.specs.Stmts.{operand, stmtCases, stmt}
 use Rattle.tree.specs.Decode.{textsOf}
+use Rattle.tree.specs.Levels.{stmt-levels}
 use Rattle.sema.specs.Messages.{Diagnostic, aQubit, aBit, warning, alreadyMeasured}
 use Rattle.sema.specs.Symbols.{Symbols, get, after}
 use Rattle.sema.specs.Marks.{Key, Marks, sizeOf, markMeasured, effect, apply, lookupMeasured}
@@ -34,7 +35,7 @@ use Rattle.accepted.specs.Parts.{valueOr, is-ok, given-ok, given-is, next-is, v
 use Rattle.accepted.specs.Numbers.{one-byte, number-join}
 use Rattle.accepted.specs.Fields.{number-is, option-none, option-some}
 use Rattle.accepted.specs.Operands.{operand-name, operand-name-in}
-use Rattle.accepted.specs.Bodies.{stmt-goes}
+use Rattle.accepted.specs.Levels.{level-goes}
 use Rattle.accepted.specs.Marked.{measured-span}
 use Rattle.accepted.specs.Stmts as of
 use Rattle.sheet.specs.Sheet.{Covers, measuring, lookupIn}
@@ -158,7 +159,7 @@ module _ (left : ℕ) (s : List ℕ) (at : ℕ) (h : IsOk (stmt (textsOf s) left
     where
       go : (at : ℕ) → IsOk (stmt (textsOf s) left s at) → getD s at 0 ≡ 8 → PlaceOk s at
       go zero h b = tt
-      go (suc at) h b = subst IsOk (stmt-goes (textsOf s) left s (suc at) h 8 b .is) h
+      go (suc at) h b = subst IsOk (level-goes (stmt-levels (textsOf s)) left s (suc at) h 8 b .is) h
 
 module _ (tree : List ℕ) (left : ℕ) (st : State) (h : IsOk (stmt (textsOf tree) left tree (st .at))) (b : getD tree (st .at) 0 ≡ 8) (op : Operand) (k : ℕ) (e : operand (textsOf tree) tree (st .at + 1) ≡ ok (operandOf op) k) where
   pub measure-option : IsOk (option (operand (textsOf tree)) tree k)

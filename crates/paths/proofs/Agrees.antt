@@ -1,7 +1,7 @@
 -- The analysis of a part of a tree agrees with the paths of that part: the laws for each form that a part has. Assumes nothing.
 use mathlib.Core.Path.{_≡_, subst₂}
 use mathlib.Core.List.{List, [], _∷_, _++_, append-nil}
-use Prim.Native.Nat.{ℕ, suc}
+use Prim.Native.Nat.{ℕ, suc, _≤_, _<_}
 use native.Mathlib.Omega.{arith}
 use Rattle.span.specs.declared.Span.{Span}
 use Rattle.ast.specs.Tree.{GateOperand, Stmt}
@@ -9,7 +9,7 @@ use Rattle.sema.specs.Messages.{Diagnostic}
 use Rattle.sema.specs.Symbols.{Symbols}
 use Rattle.sema.specs.Marks.{Marks, effect, apply, unite, afterLoop}
 use Rattle.sema.specs.Operands.{useOperands}
-use Rattle.paths.specs.Steps.{Step, step, State, next, run, either, turns}
+use Rattle.paths.specs.Steps.{Step, step, State, next, run, Reaches, either, turns}
 use Rattle.paths.specs.Places.{Place, listed}
 use Rattle.paths.specs.Errors.{useLines, Errs, Lists, done}
 use Rattle.paths.proofs.Ranges.{reaches-in}
@@ -62,6 +62,12 @@ module _ {C : Type 0} {π : C → List Step} {qs : List Place} {hi : ℕ} (h : S
 -- ── Two parts, numbered one after the other ──
 
 module _ {C D : Type 0} {π : C → List Step} {ρ : D → List Step} {ps qs : List Place} {lo mid hi : ℕ} (p : Part π ps lo mid) (q : Part ρ qs mid hi) where
+  not-first : (x : ℕ) (P : State → Type 0) → mid ≤ x → (m : State) (c : C) → Reaches P m (π c) x → ⊥
+  not-first x P h m c w = let e = reaches-in P m x (p .numbers c) w in omega arith
+
+  not-second : (x : ℕ) (P : State → Type 0) → x < mid → (m : State) (d : D) → Reaches P m (ρ d) x → ⊥
+  not-second x P h m d w = let e = reaches-in P m x (q .numbers d) w in omega arith
+
   -- one of the two
   pub agrees-fork : {M M₁ M₂ M′ : Marks} {ds es : List Diagnostic} → United M₁ M₂ M′ → Agrees π ps M M₁ ds → Agrees ρ qs M M₂ es
       → Agrees (either π ρ) (ps ++ qs) M M′ (ds ++ es)
@@ -70,8 +76,8 @@ module _ {C D : Type 0} {π : C → List Step} {ρ : D → List Step} {ps qs : L
         exit = λ st i S. sound-fork M₁ M₂ M′ st π ρ u (a .exit st i S) (b .exit st i S);
         errors = λ st i S.
             rw useLines-append (lists-append
-            (move _ _ _ _ (λ x l r P. fork-left st π ρ x P (λ m d w. let e = reaches-in P m x (q .numbers d) w in omega arith)) (p .within) (a .errors st i S))
-            (move _ _ _ _ (λ x l r P. fork-right st π ρ x P (λ m c w. let e = reaches-in P m x (p .numbers c) w in omega arith)) (q .within) (b .errors st i S)));
+            (move _ _ _ _ (λ x l r P. fork-left st π ρ x P (not-second x P r)) (p .within) (a .errors st i S))
+            (move _ _ _ _ (λ x l r P. fork-right st π ρ x P (not-first x P l)) (q .within) (b .errors st i S)));
       }
 
   -- one and then the other
@@ -82,8 +88,8 @@ module _ {C D : Type 0} {π : C → List Step} {ρ : D → List Step} {ps qs : L
         exit = λ st i S. sound-seq M₂ st π ρ (b .exit (λ j. run (st (j .0)) (π (j .1))) (i, p .any) (a .exit st i S));
         errors = λ st i S.
             rw useLines-append (lists-append
-            (move _ _ _ _ (λ x l r P. seq-left st π ρ x P (q .any) (λ m d w. let e = reaches-in P m x (q .numbers d) w in omega arith)) (p .within) (a .errors st i S))
-            (move _ _ _ _ (λ x l r P. seq-right st π ρ x P (λ m c w. let e = reaches-in P m x (p .numbers c) w in omega arith)) (q .within)
+            (move _ _ _ _ (λ x l r P. seq-left st π ρ x P (q .any) (not-second x P r)) (p .within) (a .errors st i S))
+            (move _ _ _ _ (λ x l r P. seq-right st π ρ x P (not-first x P l)) (q .within)
             (b .errors (λ j. run (st (j .0)) (π (j .1))) (i, p .any) (a .exit st i S))));
       }
 

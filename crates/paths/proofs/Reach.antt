@@ -41,15 +41,25 @@ module _ (P : State → Type 0) where
   reaches-right m [] ys a h = h
   reaches-right m (x ∷ xs) ys a h = inr (reaches-right (next m x) xs ys a h)
 
--- the paths of one list and then those of another
+-- ── The paths that go a part's way ──
+
+-- the part's choices C among the choices E
+module _ {I C E : Type 0} (st : I → State) (l : C → List Step) (π : E → List Step) (a : ℕ) (P : State → Type 0) where
+  part : (f : C → E) → ((m : State) (c : C) → Reaches P m (l c) a → Reaches P m (π (f c)) a)
+      → ((m : State) (e : E) → Reaches P m (π e) a → (c : C) × Reaches P m (l c) a)
+      → Some {J = I × C} (λ j. st (j .0)) (λ j. l (j .1)) a P ↔ Some {J = I × E} (λ j. st (j .0)) (λ j. π (j .1)) a P
+  part f to from = (
+    λ w. let j = w .path in record { path = (j .0, f (j .1)); reaches = to (st (j .0)) (j .1) (w .reaches) },
+    λ w. let j = w .path in let c = from (st (j .0)) (j .1) (w .reaches) in record { path = (j .0, c .0); reaches = c .1 },
+  )
+
 module _ {I C D : Type 0} (st : I → State) (l : C → List Step) (r : D → List Step) (a : ℕ) (P : State → Type 0) where
+  -- one list and then another
   pub seq-left : D → ((m : State) (d : D) → Reaches P m (r d) a → ⊥) → Some {J = I × C} (λ j. st (j .0)) (λ j. l (j .1)) a P
       ↔ Some {J = I × (C × D)} (λ j. st (j .0)) (λ j. l (j .1 .0) ++ r (j .1 .1)) a P
-  seq-left d f = (
-    λ w. let c = w .path in record { path = (c .0, (c .1, d)); reaches = reaches-left P (st (c .0)) (l (c .1)) (r d) a (w .reaches) },
-    λ w. let c = w .path in
-        record { path = (c .0, c .1 .0); reaches = drop-right (f _ (c .1 .1)) (reaches-split P (st (c .0)) (l (c .1 .0)) (r (c .1 .1)) a (w .reaches)) },
-  )
+  seq-left d f =
+      part st l (λ e. l (e .0) ++ r (e .1)) a P (λ c. (c, d)) (λ m c. reaches-left P m (l c) (r d) a)
+      (λ m e w. (e .0, drop-right (f _ (e .1)) (reaches-split P m (l (e .0)) (r (e .1)) a w)))
 
   pub seq-right : ((m : State) (c : C) → Reaches P m (l c) a → ⊥) → Some {J = (I × C) × D} (λ j. run (st (j .0 .0)) (l (j .0 .1))) (λ j. r (j .1)) a P
       ↔ Some {J = I × (C × D)} (λ j. st (j .0)) (λ j. l (j .1 .0) ++ r (j .1 .1)) a P
@@ -60,32 +70,18 @@ module _ {I C D : Type 0} (st : I → State) (l : C → List Step) (r : D → Li
         record { path = ((c .0, c .1 .0), c .1 .1); reaches = drop-left (f _ (c .1 .0)) (reaches-split P (st (c .0)) (l (c .1 .0)) (r (c .1 .1)) a (w .reaches)) },
   )
 
--- ── One of two ──
-
-module _ {I C D : Type 0} (st : I → State) (l : C → List Step) (r : D → List Step) (a : ℕ) (P : State → Type 0) where
-  only-left : ((m : State) (d : D) → Reaches P m (r d) a → ⊥) → (i : I) (c : C ⊎ D) → Reaches P (st i) (either l r c) a
-      → Some {J = I × C} (λ j. st (j .0)) (λ j. l (j .1)) a P
-  only-left f i (inl c) x = record { path = (i, c); reaches = x }
-  only-left f i (inr d) x = absurd (f (st i) d x)
-
-  only-right : ((m : State) (c : C) → Reaches P m (l c) a → ⊥) → (i : I) (c : C ⊎ D) → Reaches P (st i) (either l r c) a
-      → Some {J = I × D} (λ j. st (j .0)) (λ j. r (j .1)) a P
-  only-right f i (inl c) x = absurd (f (st i) c x)
-  only-right f i (inr d) x = record { path = (i, d); reaches = x }
+  -- one of two
+  fork-split : (m : State) (e : C ⊎ D) → Reaches P m (either l r e) a → ((c : C) × Reaches P m (l c) a) ⊎ ((d : D) × Reaches P m (r d) a)
+  fork-split m (inl c) w = inl (c, w)
+  fork-split m (inr d) w = inr (d, w)
 
   pub fork-left : ((m : State) (d : D) → Reaches P m (r d) a → ⊥) → Some {J = I × C} (λ j. st (j .0)) (λ j. l (j .1)) a P
       ↔ Some {J = I × (C ⊎ D)} (λ j. st (j .0)) (λ j. either l r (j .1)) a P
-  fork-left f = (
-    λ w. record { path = (w .path .0, inl (w .path .1)); reaches = w .reaches },
-    λ w. only-left f (w .path .0) (w .path .1) (w .reaches),
-  )
+  fork-left f = part st l (either l r) a P inl (λ m c w. w) (λ m e w. drop-right (λ d. f m (d .0) (d .1)) (fork-split m e w))
 
   pub fork-right : ((m : State) (c : C) → Reaches P m (l c) a → ⊥) → Some {J = I × D} (λ j. st (j .0)) (λ j. r (j .1)) a P
       ↔ Some {J = I × (C ⊎ D)} (λ j. st (j .0)) (λ j. either l r (j .1)) a P
-  fork-right f = (
-    λ w. record { path = (w .path .0, inr (w .path .1)); reaches = w .reaches },
-    λ w. only-right f (w .path .0) (w .path .1) (w .reaches),
-  )
+  fork-right f = part st r (either l r) a P inr (λ m d w. w) (λ m e w. drop-left (λ c. f m (c .0) (c .1)) (fork-split m e w))
 
 -- ── Behind a statement that leaves the marks as they are ──
 

@@ -7,93 +7,28 @@ use lib.ListN.{getD}
 use Rattle.ast.specs.Tree.{Text, Stmt, noStmt, moreStmt}
 use Rattle.tree.specs.Ans.{Reader, bind, _>>=_, refuse}
 use Rattle.tree.specs.Read.{number, caseByte, option, repeat}
-use Rattle.tree.specs.Stmts.{body, elseBody, include, qubitDecl, bitDecl, classicalDecl, assignment, gateCall, gateDef, functionDef, measure, reset, barrier, delay, branch, forLoop, whileLoop, stmtCases, stmt}
+use Rattle.tree.specs.Stmts.{body, elseBody, whileLoop, stmtCases, stmt}
 use Rattle.tree.specs.Levels.{stmt-levels}
-use Rattle.reading.specs.Answers.{forget, gaveByte, gaveNumber, byteAnswer, numberAnswer}
+use Rattle.reading.specs.Answers.{forget, gaveByte, gaveNumber, numberAnswer}
 use Rattle.reading.specs.declared.answers.Read.{Read}
-use Rattle.reading.specs.declared.answers.Read.the-variants.{At, Refused}
 use Rattle.reading.specs.declared.answers.ReadByte.{ReadByte}
 use Rattle.reading.specs.declared.answers.ReadNumber.{ReadNumber}
 use Rattle.reading.proofs.Taken.{taken-ok, taken-left, taken-refused, numberKind}
 use Rattle.reading.proofs.Runs.{skip, runs-last, then, end, by}
 use Rattle.reading.proofs.Values.{bind-refused, case-below, case-next}
-use Rattle.reading.proofs.Levels.{level-refused, level-over, level-arm}
+use Rattle.reading.proofs.Levels.{level-arm}
 use Rattle.forms.proofs.Cases.{up, last}
 
 -- statements
-module _ (t : List Text) (left : ℕ) (s : List ℕ) (at : ℕ) (a : ReadByte) (read : a ≡ gaveByte (caseByte 15 s at)) where
-  pub stmt-refused : (m p : ℕ) → a ≡ ReadByte.Refused m p → (r : Read) → r ≡ forget (byteAnswer a) → r ≡ forget (stmt t left s at)
-  stmt-refused = level-refused (stmt-levels t) left s at a read
+module _ (t : List Text) (left : ℕ) (s : List ℕ) (at : ℕ) (a : ReadByte) (read : a ≡ gaveByte (caseByte 15 s at)) (b k : ℕ) (g : a ≡ ReadByte.At b k) (deep : left ≡ 0 → ⊥) (r : Read) where
+  pub stmt-arm : (c : ℕ) → b ≡ c → r ≡ forget (getD (stmtCases t (stmt t (left - 1)) at) c (refuse 4 at) s (at + 1)) → r ≡ forget (stmt t left s at)
+  stmt-arm c e h = level-arm (stmt-levels t) left s at a read b k g deep r c e (rw (case-next s at 15 a read b k g) h)
 
-  module _ (b k : ℕ) (g : a ≡ ReadByte.At b k) where
-    pub stmt-over : left ≡ 0 → Refused 6 at ≡ forget (stmt t left s at)
-    stmt-over = level-over (stmt-levels t) left s at a read b k g
+  pub case-while : (b ≡ 0 → ⊥) → (b ≡ 1 → ⊥) → (b ≡ 2 → ⊥) → (b ≡ 3 → ⊥) → (b ≡ 4 → ⊥) → (b ≡ 5 → ⊥) → (b ≡ 6 → ⊥) → (b ≡ 7 → ⊥) → (b ≡ 8 → ⊥) → (b ≡ 9 → ⊥) → (b ≡ 10 → ⊥) → (b ≡ 11 → ⊥) → (b ≡ 12 → ⊥) → (b ≡ 13 → ⊥) → r ≡ forget (whileLoop t (stmt t (left - 1)) at s (at + 1)) → r ≡ forget (stmt t left s at)
+  unfolding stmtCases
+  case-while n0 n1 n2 n3 n4 n5 n6 n7 n8 n9 n10 n11 n12 n13 = stmt-arm 14 (last b 14 (case-below s at 15 a read b k g) (up b 13 n13 (up b 12 n12 (up b 11 n11 (up b 10 n10 (up b 9 n9 (up b 8 n8 (up b 7 n7 (up b 6 n6 (up b 5 n5 (up b 4 n4 (up b 3 n3 (up b 2 n2 (up b 1 n1 (up b 0 n0 (omega arith))))))))))))))))
 
-    module _ (deep : left ≡ 0 → ⊥) (r : Read) where
-      stmt-arm : (c : ℕ) → b ≡ c → r ≡ forget (getD (stmtCases t (stmt t (left - 1)) at) c (refuse 4 at) s (at + 1)) → r ≡ forget (stmt t left s at)
-      stmt-arm c e h = level-arm (stmt-levels t) left s at a read b k g deep r c e (rw (case-next s at 15 a read b k g) h)
-
-      pub case-include : b ≡ 0 → r ≡ forget (include t at s (at + 1)) → r ≡ forget (stmt t left s at)
-      unfolding stmtCases
-      case-include = stmt-arm 0
-
-      pub case-qubit-decl : b ≡ 1 → r ≡ forget (qubitDecl t at s (at + 1)) → r ≡ forget (stmt t left s at)
-      unfolding stmtCases
-      case-qubit-decl = stmt-arm 1
-
-      pub case-bit-decl : b ≡ 2 → r ≡ forget (bitDecl t at s (at + 1)) → r ≡ forget (stmt t left s at)
-      unfolding stmtCases
-      case-bit-decl = stmt-arm 2
-
-      pub case-classical-decl : b ≡ 3 → r ≡ forget (classicalDecl t at s (at + 1)) → r ≡ forget (stmt t left s at)
-      unfolding stmtCases
-      case-classical-decl = stmt-arm 3
-
-      pub case-assignment : b ≡ 4 → r ≡ forget (assignment t at s (at + 1)) → r ≡ forget (stmt t left s at)
-      unfolding stmtCases
-      case-assignment = stmt-arm 4
-
-      pub case-gate-call : b ≡ 5 → r ≡ forget (gateCall t at s (at + 1)) → r ≡ forget (stmt t left s at)
-      unfolding stmtCases
-      case-gate-call = stmt-arm 5
-
-      pub case-gate-def : b ≡ 6 → r ≡ forget (gateDef t (stmt t (left - 1)) at s (at + 1)) → r ≡ forget (stmt t left s at)
-      unfolding stmtCases
-      case-gate-def = stmt-arm 6
-
-      pub case-function-def : b ≡ 7 → r ≡ forget (functionDef t at s (at + 1)) → r ≡ forget (stmt t left s at)
-      unfolding stmtCases
-      case-function-def = stmt-arm 7
-
-      pub case-measure : b ≡ 8 → r ≡ forget (measure t at s (at + 1)) → r ≡ forget (stmt t left s at)
-      unfolding stmtCases
-      case-measure = stmt-arm 8
-
-      pub case-reset : b ≡ 9 → r ≡ forget (reset t at s (at + 1)) → r ≡ forget (stmt t left s at)
-      unfolding stmtCases
-      case-reset = stmt-arm 9
-
-      pub case-barrier : b ≡ 10 → r ≡ forget (barrier t at s (at + 1)) → r ≡ forget (stmt t left s at)
-      unfolding stmtCases
-      case-barrier = stmt-arm 10
-
-      pub case-delay : b ≡ 11 → r ≡ forget (delay t at s (at + 1)) → r ≡ forget (stmt t left s at)
-      unfolding stmtCases
-      case-delay = stmt-arm 11
-
-      pub case-branch : b ≡ 12 → r ≡ forget (branch t (stmt t (left - 1)) at s (at + 1)) → r ≡ forget (stmt t left s at)
-      unfolding stmtCases
-      case-branch = stmt-arm 12
-
-      pub case-for : b ≡ 13 → r ≡ forget (forLoop t (stmt t (left - 1)) at s (at + 1)) → r ≡ forget (stmt t left s at)
-      unfolding stmtCases
-      case-for = stmt-arm 13
-
-      pub case-while : (b ≡ 0 → ⊥) → (b ≡ 1 → ⊥) → (b ≡ 2 → ⊥) → (b ≡ 3 → ⊥) → (b ≡ 4 → ⊥) → (b ≡ 5 → ⊥) → (b ≡ 6 → ⊥) → (b ≡ 7 → ⊥) → (b ≡ 8 → ⊥) → (b ≡ 9 → ⊥) → (b ≡ 10 → ⊥) → (b ≡ 11 → ⊥) → (b ≡ 12 → ⊥) → (b ≡ 13 → ⊥) → r ≡ forget (whileLoop t (stmt t (left - 1)) at s (at + 1)) → r ≡ forget (stmt t left s at)
-      unfolding stmtCases
-      case-while n0 n1 n2 n3 n4 n5 n6 n7 n8 n9 n10 n11 n12 n13 = stmt-arm 14 (last b 14 (case-below s at 15 a read b k g) (up b 13 n13 (up b 12 n12 (up b 11 n11 (up b 10 n10 (up b 9 n9 (up b 8 n8 (up b 7 n7 (up b 6 n6 (up b 5 n5 (up b 4 n4 (up b 3 n3 (up b 2 n2 (up b 1 n1 (up b 0 n0 (omega arith))))))))))))))))
-
-pub ruleset statements = (stmt-refused, stmt-over, case-include, case-qubit-decl, case-bit-decl, case-classical-decl, case-assignment, case-gate-call, case-gate-def, case-function-def, case-measure, case-reset, case-barrier, case-delay, case-branch, case-for, case-while)
+pub ruleset statements = (stmt-arm, case-while)
 
 -- bodies
 module _ (inner : Reader Stmt) (s : List ℕ) (at : ℕ) (r : Read) where

@@ -105,15 +105,34 @@ module _ (x : List ℕ) (i : ℕ) (inv : fraction x ≡ fraction (drop i x)) whe
 
 pub ruleset scanning = (every-more, every-end, fraction-more, fraction-point, fraction-stop, fraction-end)
 
+-- a test that fails of no bytes, and goes by the first byte and then by the rest
+module _ (x : List ℕ) (f : List ℕ → Bool) where
+  no-byte : f [] ≡ false → length x ≡ 0 → false ≡ f x
+  no-byte e h = go x h
+    where
+      go : (x : List ℕ) → length x ≡ 0 → false ≡ f x
+      go [] h = sym e
+      go (c ∷ cs) h = absurd (omega arith)
+
+  module _ (p : ℕ → Bool) (q : List ℕ → Bool) (by : (c : ℕ) (cs : List ℕ) → f (c ∷ cs) ≡ (p c && q cs)) (h : length x ≡ 0 → ⊥) (r : Bool) (e : r ≡ p (getD x 0 0)) where
+    by-first : f x ≡ (p (getD x 0 0) && q (drop 1 x))
+    by-first = go x h
+      where
+        go : (x : List ℕ) → (length x ≡ 0 → ⊥) → f x ≡ (p (getD x 0 0) && q (drop 1 x))
+        go [] h = absurd (h refl)
+        go (c ∷ cs) h = by c cs
+
+    first-so : r ≡ true → (b : Bool) → b ≡ q (take (length x - 1) (drop 1 x)) → b ≡ f x
+    first-so g b w = rw (by-first, sym e, g) (rw (rest-of x 1 (length x) (le-refl (length x))) at w)
+
+    first-not : r ≡ false → false ≡ f x
+    first-not g = rw (by-first, sym e, g)
+
 -- the spelling of a whole text, by its first byte
 module _ (x : List ℕ) where
   pub digits-none : length x ≡ 0 → false ≡ digits x
   unfolding digits
-  digits-none h = go x h
-    where
-      go : (x : List ℕ) → length x ≡ 0 → false ≡ digits x
-      go [] h = refl
-      go (c ∷ cs) h = absurd (omega arith)
+  digits-none = no-byte x digits refl
 
   pub digits-all : (length x ≡ 0 → ⊥) → (r : Bool) → r ≡ every (λ c. (false && letter c) || digit c) x → r ≡ digits x
   unfolding digits every
@@ -125,51 +144,31 @@ module _ (x : List ℕ) where
 
   pub name-none : length x ≡ 0 → false ≡ isName x
   unfolding isName
-  name-none h = go x h
-    where
-      go : (x : List ℕ) → length x ≡ 0 → false ≡ isName x
-      go [] h = refl
-      go (c ∷ cs) h = absurd (omega arith)
+  name-none = no-byte x isName refl
 
-  pub name-first : (length x ≡ 0 → ⊥) → (r : Bool) → r ≡ letter (getD x 0 0) → r ≡ true → (q : Bool) → q ≡ every (λ c. (true && letter c) || digit c) (take (length x - 1) (drop 1 x)) → q ≡ isName x
-  unfolding isName
-  name-first h r e g q f = go x h (sym e ∙ g) (rw (rest-of x 1 (length x) (le-refl (length x))) at f)
+  pub name-first : (length x ≡ 0 → ⊥) → (r : Bool) → r ≡ letter (getD x 0 0) → r ≡ true → (q : Bool) → q ≡ every (λ c. (true && letter c) || digit c) x → q ≡ isName x
+  unfolding isName every
+  name-first h r e g q f = go x h (sym e ∙ g) f
     where
-      go : (x : List ℕ) → (length x ≡ 0 → ⊥) → letter (getD x 0 0) ≡ true → q ≡ every (λ c. letter c || digit c) (drop 1 x) → q ≡ isName x
+      go : (x : List ℕ) → (length x ≡ 0 → ⊥) → letter (getD x 0 0) ≡ true → q ≡ every (λ c. letter c || digit c) x → q ≡ isName x
       go [] h l f = absurd (h refl)
-      go (c ∷ cs) h l f = rw l f
+      go (c ∷ cs) h l f = rw l (rw l at f)
 
   pub name-other : (length x ≡ 0 → ⊥) → (r : Bool) → r ≡ letter (getD x 0 0) → r ≡ false → false ≡ isName x
   unfolding isName
-  name-other h r e g = go x h (sym e ∙ g)
-    where
-      go : (x : List ℕ) → (length x ≡ 0 → ⊥) → letter (getD x 0 0) ≡ false → false ≡ isName x
-      go [] h l = absurd (h refl)
-      go (c ∷ cs) h l = rw l
+  name-other = first-not x isName letter (every (λ c. letter c || digit c)) (λ c cs. refl)
 
   pub float-none : length x ≡ 0 → false ≡ isFloat x
   unfolding isFloat
-  float-none h = go x h
-    where
-      go : (x : List ℕ) → length x ≡ 0 → false ≡ isFloat x
-      go [] h = refl
-      go (c ∷ cs) h = absurd (omega arith)
+  float-none = no-byte x isFloat refl
 
   pub float-first : (length x ≡ 0 → ⊥) → (r : Bool) → r ≡ digit (getD x 0 0) → r ≡ true → (q : Bool) → q ≡ fraction (take (length x - 1) (drop 1 x)) → q ≡ isFloat x
   unfolding isFloat
-  float-first h r e g q f = go x h (sym e ∙ g) (rw (rest-of x 1 (length x) (le-refl (length x))) at f)
-    where
-      go : (x : List ℕ) → (length x ≡ 0 → ⊥) → digit (getD x 0 0) ≡ true → q ≡ fraction (drop 1 x) → q ≡ isFloat x
-      go [] h l f = absurd (h refl)
-      go (c ∷ cs) h l f = rw l f
+  float-first = first-so x isFloat digit fraction (λ c cs. refl)
 
   pub float-other : (length x ≡ 0 → ⊥) → (r : Bool) → r ≡ digit (getD x 0 0) → r ≡ false → false ≡ isFloat x
   unfolding isFloat
-  float-other h r e g = go x h (sym e ∙ g)
-    where
-      go : (x : List ℕ) → (length x ≡ 0 → ⊥) → digit (getD x 0 0) ≡ false → false ≡ isFloat x
-      go [] h l = absurd (h refl)
-      go (c ∷ cs) h l = rw l
+  float-other = first-not x isFloat digit fraction (λ c cs. refl)
 
   -- the kind
   pub kind-name : (r : Bool) → r ≡ isName x → r ≡ true → 1 ≡ kindOf x

@@ -89,7 +89,7 @@ fn is_name(x: &[u8]) -> bool
         return false;
     }
     if is_letter(x[0]) {
-        return all_of(&x[1..], true);
+        return all_of(x, true);
     }
     false
 }

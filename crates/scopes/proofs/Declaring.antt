@@ -3,12 +3,10 @@ use Prim.Native.Nat.{ℕ, zero, suc, _+_, _≤_, _<_}
 use mathlib.Core.Path.{_≡_, refl, sym, ap, _∙_}
 use mathlib.Core.List.{List}
 use mathlib.Core.Option.{Option, none, some}
-use mathlib.Core.Bool.{Bool, true, false}
-use mathlib.Core.Logic.{_⊎_, inl, inr, ⊎-elim}
+use mathlib.Core.Logic.{inl, inr, ⊎-elim}
 use native.Mathlib.Omega.{arith}
 use lib.ListN.{length, getD}
-use lib.Dec.{eqb}
-use borrow.Author.Tests.{eqb-true, eqb-false, ne-eqb}
+use borrow.Author.Tests.{ne-eqb}
 use Rattle.span.specs.declared.Span.{Span}
 use Rattle.ast.specs.Tree.{Text, Stmt}
 use Rattle.ast.specs.declared.ClassicalType.{ClassicalType}
@@ -63,23 +61,18 @@ declares is r e n a p = record {
 module _ (t : List Text) (left : ℕ) (s : List ℕ) (at : ℕ) (h : IsOk (stmt t left s at)) where
   -- a register, of qubits or of bits
   module _ (l : 0 < getD s at 0) (u : getD s at 0 < 3) where
-    case : (getD s at 0 ≡ 1) ⊎ (getD s at 0 ≡ 2)
-    case = go (eqb (getD s at 0) 1) refl
-      where
-        go : (b : Bool) → eqb (getD s at 0) 1 ≡ b → (getD s at 0 ≡ 1) ⊎ (getD s at 0 ≡ 2)
-        go true e = inl (eqb-true (getD s at 0) 1 e)
-        go false e = let n = eqb-false (getD s at 0) 1 e in inr (omega arith)
+    case : of.Register t left s at h
+    case = of.register t left s at h l u
 
     pub register-name-in : at + 3 ≤ length s
-    register-name-in = ⊎-elim (of.qubitDecl-name-in t left s at h) (of.bitDecl-name-in t left s at h) case
+    register-name-in = of.register-named t left s at h case .inside
 
     pub register-size : IsOk (option u64 s (at + 3))
-    register-size = ⊎-elim (of.qubitDecl-size t left s at h) (of.bitDecl-size t left s at h) case
+    register-size = of.register-size t left s at h case
 
     module _ {size : Option ℕ} (k : ℕ) (e : option u64 s (at + 3) ≡ ok size k) where
       pub register-inside : k + 8 ≤ length s
-      register-inside =
-          ⊎-elim (λ b. of.qubitDecl-inside t left s at h b k (sym (next-is e))) (λ b. of.bitDecl-inside t left s at h b k (sym (next-is e))) case
+      register-inside = of.register-inside t left s at h case k (sym (next-is e))
 
     pub register-declares : (kind : Kind) → kindOf kind ≡ registerKind (getD s at 0)
         → (name : ℕ) → name ≡ numberAt 2 s (at + 1)
@@ -89,9 +82,9 @@ module _ (t : List Text) (left : ℕ) (s : List ℕ) (at : ℕ) (h : IsOk (stmt 
     unfolding after
     register-declares kind p name q size k e sp f = ⊎-elim
         (λ b. let c : kindOf kind ≡ Qubit = rw b at p in
-        declares (of.qubitDecl-is t left s at h b k (sym (next-is e))) _ refl (rw q (of.qubitDecl-name t left s at h b)) (λ ss. rw (value-is e none, c, q, f)) (sym f))
+        declares (of.qubitDecl-is t left s at h b k (sym (next-is e))) _ refl (rw q (of.register-named t left s at h (inl b) .below)) (λ ss. rw (value-is e none, c, q, f)) (sym f))
         (λ b. let c : kindOf kind ≡ Bit = rw b at p in
-        declares (of.bitDecl-is t left s at h b k (sym (next-is e))) _ refl (rw q (of.bitDecl-name t left s at h b)) (λ ss. rw (value-is e none, c, q, f)) (sym f))
+        declares (of.bitDecl-is t left s at h b k (sym (next-is e))) _ refl (rw q (of.register-named t left s at h (inr b) .below)) (λ ss. rw (value-is e none, c, q, f)) (sym f))
         case
 
   -- a classical declaration
@@ -105,7 +98,7 @@ module _ (t : List Text) (left : ℕ) (s : List ℕ) (at : ℕ) (h : IsOk (stmt 
       → Declares t (stmt t left s at) (record { name = name; symbol = record { kind = kind; size = Number.None; «decl_span» = sp }; end = m + 8 })
   unfolding after
   classical-declares b k e ty p kind c name q m g sp f =
-      declares (of.classicalDecl-is t left s at h b k e m g) _ refl (rw q (of.classicalDecl-name t left s at h b k e)) (λ ss. rw (c, p, q, f)) (sym f)
+      declares (of.classicalDecl-is t left s at h b k e m g) _ refl (rw q (of.classicalDecl-named t left s at h b k e .below)) (λ ss. rw (c, p, q, f)) (sym f)
 
 -- the kind of a register that is not one of qubits
 pub kind-bit : (c : ℕ) → (c ≡ 1 → ⊥) → Bit ≡ registerKind c

@@ -2,9 +2,8 @@
 use Prim.Native.Nat.{ℕ, suc, _-_, _≤_, _<_, _+_}
 use mathlib.Core.Path.{_≡_, refl, sym, _∙_}
 use mathlib.Core.List.{List, [], _∷_, map}
-use native.Mathlib.Omega.{arith}
 use native.Mathlib.Numerals.{add-one}
-use lib.ListN.{length, getD}
+use lib.ListN.{getD}
 use Rattle.span.specs.declared.Span.{Span}
 use Rattle.ast.specs.Tree.{Text, TextNumber}
 use Rattle.ast.specs.declared.ClassicalType.{ClassicalType}
@@ -17,9 +16,9 @@ use Rattle.sema.specs.Messages.{Classical, GateParam, GateQubit}
 use Rattle.sema.specs.Symbols.{Symbol, Symbols, Scope, empty, plain, insertAll, gateScope, functionScope, loopScope}
 use Rattle.context.specs.View.{numberAt, typeOf, scopesOf, gatesOf, functionsOf}
 use Rattle.tables.specs.Tables.{Becomes, Inserted, Entered}
-use Rattle.accepted.specs.Parts.{valueOr, next-is, value-is, start, field, known}
-use Rattle.accepted.specs.Fields.{text-in-at, text-is, counted-is, counted-held, repeat-none, repeat-first, repeat-rest, repeat-is}
-use Rattle.accepted.specs.Operands.{type-is, param-is}
+use Rattle.accepted.specs.Parts.{valueOr, next-is, value-is}
+use Rattle.accepted.specs.Fields.{text-is, counted-is, counted-held, repeat-none, repeat-first, repeat-rest, repeat-is}
+use Rattle.accepted.specs.Operands.{param-is}
 use Rattle.scopes.specs.Scopes.{named, typed, into}
 
 -- one change after another
@@ -104,7 +103,3 @@ name-read t tree k h x e = rw e (text-is tree k t isName h)
 
 pub param-read : (t : List Text) (tree : List ℕ) (k : ℕ) → IsOk (param t tree k) → (ty : ClassicalType) → ty ≡ typeOf (getD tree k 0) → (x : ℕ) → x ≡ numberAt 2 tree (k + 1) → param t tree k ≡ ok (ty, x) (k + 3)
 param-read t tree k h ty e x f = rw (e, f) (param-is t tree k h)
-
-pub param-in : (t : List Text) (tree : List ℕ) (k : ℕ) → IsOk (param t tree k) → k + 3 ≤ length tree
-unfolding param
-param-in t tree k h = text-in-at tree (k + 1) _ (omega arith) t isName (field _ _ (known _ _ (k + 1) (type-is tree k) refl (start h)))

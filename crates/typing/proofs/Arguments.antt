@@ -4,7 +4,7 @@ use mathlib.Core.Path.{_≡_, refl, sym, ap, _∙_}
 use mathlib.Core.List.{List, [], _∷_, _++_, append-nil}
 use mathlib.Core.Option.{Option, none, some}
 use native.Mathlib.Omega.{arith}
-use native.Mathlib.Numerals.{add-one, sub-one}
+use native.Mathlib.Numerals.{add-one}
 use native.Mathlib.Nat.{sub-zero}
 use lib.ListN.{getD, drop, length}
 use lib.Dec.{eqb}
@@ -26,7 +26,8 @@ use Rattle.context.specs.Values.{typedOf}
 use Rattle.context.specs.View.{numberAt, spanAt}
 use Rattle.accepted.specs.Cases.{blank}
 use Rattle.accepted.specs.Parts.{valueOr, value-is, given-ok}
-use Rattle.accepted.specs.Fields.{counted-is, counted-held, repeat-none}
+use Rattle.accepted.specs.Fields.{counted-is, repeat-none, repeat-first, repeat-is}
+use Rattle.accepted.specs.Counts.{exprs-size}
 use Rattle.accepted.specs.Remains.{Remains, remains-start, remains-more}
 use Rattle.accepted.specs.Exprs as of
 use Rattle.tables.specs.Tables.{paramsOf}
@@ -79,17 +80,6 @@ module _ (ss : Symbols) (fs : Table FunctionSig) where
       go none = ap (λ ds. untyped (error (Messages.functionNotDefined x) sp ∷ ds)) (all-free args x 0)
       go (some sig) = refl
 
--- as many arguments as the count says
-args-count : (t : List Text) (left : ℕ) (s : List ℕ) (n k : ℕ) → IsOk (repeat noExpr moreExpr (expr t left) n s k) → exprCount (valueOr noExpr (repeat noExpr moreExpr (expr t left) n s k)) ≡ n
-unfolding exprCount
-args-count t left s zero k h = ap exprCount (value-is (repeat-none s k noExpr moreExpr (expr t left) 0 (omega arith)) noExpr)
-args-count t left s (suc n) k h =
-    let l : 0 < suc n = omega arith in
-    let next : ℕ = nextOf (expr t left s k) in
-    let r : IsOk (repeat noExpr moreExpr (expr t left) n s next) = rw sub-one at (of.args-rest t left s (suc n) k h l next refl) in
-    let e = value-is (of.args-is t left s (suc n) k h l next refl) noExpr in
-    ap exprCount e ∙ ap suc (rw sub-one (args-count t left s n next r))
-
 -- the arguments from number i on stand from k on, behind the count, and what is said of them is still to be said
 pub record Arguing (t : List Text) (ss : Symbols) (fs : Table FunctionSig) (left : ℕ) (tree : List ℕ) (at x : ℕ) (ps : List ClassicalType) (n : ℕ) (s₀ : Sink) (o₀ : List ℕ) (k i : ℕ) (s : Sink) (o : List ℕ) : Type 0 where
   pub remains : Remains noExpr moreExpr (expr t left) tree (nextOf (exprs (expr t left) tree at)) (n - i) k
@@ -106,7 +96,7 @@ module _ {t : List Text} {ss : Symbols} {fs : Table FunctionSig} {left : ℕ} {t
 
   module _ {k i : ℕ} {s : Sink} {o : List ℕ} (a : Arguing t ss fs left tree at x ps n s₀ o₀ k i s o) where
     pub arguing-first : i < n → IsOk (expr t left tree k)
-    arguing-first l = of.args-first t left tree (n - i) k (a .remains .rest) (omega arith)
+    arguing-first l = repeat-first tree k noExpr moreExpr (expr t left) (n - i) (a .remains .rest) (omega arith)
 
     pub arguing-more : i < n → {v : TypingValue} {o₁ : List ℕ} {r : Sink} {o₂ : List ℕ} → TypingOf t ss fs (expr t left tree k) s o v o₁ → Emitted t (argumentAt x i (spanAt tree (v .next - 8)) (drop i ps) (typedOf (v .typed))) (v .sink) o₁ r o₂ → Arguing t ss fs left tree at x ps n s₀ o₀ (v .next) (i + 1) r o₂
     unfolding checkArguments
@@ -116,7 +106,7 @@ module _ {t : List Text} {ss : Symbols} {fs : Table FunctionSig} {left : ℕ} {t
         let less : n - i - 1 ≡ n - (i + 1) = omega arith in
         let h = arguing-first l in
         let f = found-of _ h p in
-        let all = value-is (of.args-is t left tree (n - i) k (a .remains .rest) m (v .next) (p .next)) noExpr in
+        let all = value-is (repeat-is tree k noExpr moreExpr (expr t left) (n - i) (a .remains .rest) m (v .next) (p .next) blank) noExpr in
         let told : argumentAt x i (spanAt tree (v .next - 8)) (drop i ps) (typedOf (v .typed)) ≡ argumentSays x i e (drop i ps) (checkExpr ss fs e .type) = rw (span-here t left tree k h (v .next) (p .next), f .type) (sym (argument-by x i e (drop i ps) (checkExpr ss fs e .type))) in
         let one = emitted-as (emitted-then (f .emitted) q) (ap (λ d. checkExpr ss fs e .says ++ d) told) in
         record {
@@ -137,7 +127,7 @@ module _ (t : List Text) (ss : Symbols) (fs : Table FunctionSig) (left : ℕ) (s
   call-typing {x = x} {k = k} {n = n} {sp = sp} e end g c p q =
       let a = of.call-args t left s at h b in
       let args : Exprs = valueOr noExpr (exprs (expr t (left - 1)) s (at + 3)) in
-      let many : n ≡ exprCount args = c ∙ sym (rw (counted-is s (at + 3) noExpr moreExpr (expr t (left - 1)) a) (args-count t (left - 1) s (getD s (at + 3) 0) (at + 3 + 1) (counted-held s (at + 3) noExpr moreExpr (expr t (left - 1)) a))) in
+      let many : n ≡ exprCount args = c ∙ sym (exprs-size (expr t (left - 1)) s (at + 3) a) in
       typing-is (of.call-is t left s at h b k end)
       (rw (← e, ← g, call-by ss fs x args sp) (record {
         next = refl;

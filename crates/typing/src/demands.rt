@@ -44,6 +44,7 @@ pub fn check_wanted(tree: &[u8], index: &Index, out: &mut [u8], wanted: Wanted, 
     requires { ⌜ TextsAt (now tree) (now index) × SinkFits (t .sink) × NamedBelow (length (textsOf (now tree))) wanted × (8 ≤ t .next) × (t .next ≤ length (now tree)) ⌝ }
     ensures { λ r. ⌜ Emitted (textsOf (now (tree .entry))) (unmet wanted (spanAt (now (tree .entry)) (t .next - 8)) (typedOf (t .typed))) (t .sink) (now (out .entry)) r (now (out .exit)) ⌝ }
 {
+    let tree = &tree[..];
     let sink = t.sink;
     let found = t.typed;
     let Typed::Type(actual) = found else {

@@ -19,8 +19,8 @@ use Rattle.tables.specs.Tables.{tablesEnd}
 use Rattle.lines.specs.EmitLaws.{emit-append, emit-none}
 use Rattle.accepted.specs.Cases.{blankStmt}
 use Rattle.accepted.specs.Parts.{valueOr, value-is, given-is, given-ok, next-is}
-use Rattle.accepted.specs.Fields.{repeat-none}
-use Rattle.accepted.specs.Bodies.{stmt-forward, body-is, body-held, stmts-first, stmts-rest, stmts-is}
+use Rattle.accepted.specs.Fields.{repeat-none, repeat-first, repeat-rest, repeat-is}
+use Rattle.accepted.specs.Bodies.{stmt-forward, body-is, body-held}
 use Rattle.sheet.specs.Table.{none-added}
 use Rattle.sheet.specs.Behind.{Blank}
 use Rattle.promises.specs.Walks.{Walkable, Ready, walkStmt, walkBody}
@@ -67,13 +67,13 @@ module _ (tree : List ℕ) (left n k : ℕ) (h : IsOk (repeat noStmt moreStmt (s
   R = valueOr noStmt (repeat noStmt moreStmt (stmt t left) (n - 1) tree m)
 
   more-is : repeat noStmt moreStmt (stmt t left) n tree k ≡ ok (moreStmt S R) (nextOf (repeat noStmt moreStmt (stmt t left) (n - 1) tree m))
-  more-is = stmts-is t left tree n k h l m e
+  more-is = repeat-is tree k noStmt moreStmt (stmt t left) n h l m e blankStmt
 
   first-walk : (c : SemaContext) → walkStmt t (stmt t left tree k) c ≡ analyzeStmt t S c
-  first-walk c = ap (λ w. w c) (given-ok blankStmt _ (analyzeStmt t) (stmt t left tree k) (stmts-first t left tree n k h l))
+  first-walk c = ap (λ w. w c) (given-ok blankStmt _ (analyzeStmt t) (stmt t left tree k) (repeat-first tree k noStmt moreStmt (stmt t left) n h l))
 
   rest-walk : (c : SemaContext) → walkBody t (repeat noStmt moreStmt (stmt t left) (n - 1) tree m) c ≡ analyzeStmts t R c
-  rest-walk c = ap (λ w. w c) (given-ok noStmt _ (analyzeStmts t) (repeat noStmt moreStmt (stmt t left) (n - 1) tree m) (stmts-rest t left tree n k h l m e))
+  rest-walk c = ap (λ w. w c) (given-ok noStmt _ (analyzeStmts t) (repeat noStmt moreStmt (stmt t left) (n - 1) tree m) (repeat-rest tree k noStmt moreStmt (stmt t left) n h l m e))
 
   whole-walk : (c : SemaContext) → walkBody t (repeat noStmt moreStmt (stmt t left) n tree k) c ≡ (analyzeStmts t R (analyzeStmt t S c .0) .0, analyzeStmt t S c .1 ++ analyzeStmts t R (analyzeStmt t S c .0) .1)
   unfolding analyzeStmts
@@ -108,7 +108,7 @@ module _ {tree : List ℕ} {left at : ℕ} {r₀ : State} {i₀ s o : List ℕ} 
   module _ (l : 0 < n) where
     -- the first of the remaining statements
     pub going-stmt : IsOk (stmt (textsOf tree) left tree (r .at))
-    going-stmt = stmts-first (textsOf tree) left tree n (r .at) (g .rest) l
+    going-stmt = repeat-first tree (r .at) noStmt moreStmt (stmt (textsOf tree) left) n (g .rest) l
 
     pub going-asked : left ≤ 8 → StmtAsked tree i left r s′
     going-asked d = record { walkable = g .walkable; ready = g .ready; accepted = going-stmt; shallow = d; blank = g .behind }
@@ -161,7 +161,7 @@ module _ {tree : List ℕ} {left at : ℕ} {r₀ : State} {i₀ s o : List ℕ} 
           let ss : scopesOf s″ (9 - left) ≡ after (scopesOf s′ (9 - left)) one = ap (λ (y : SemaContext). y .symbols) c″ ∙ symbols-after t _ c in
           record {
             past = omega (arith, g .past, w .at, stmt-forward t left tree (r .at) going-stmt);
-            rest = stmts-rest t left tree n (r .at) (g .rest) l (r″ .at) (w .at);
+            rest = repeat-rest tree (r .at) noStmt moreStmt (stmt t left) n (g .rest) l (r″ .at) (w .at);
             ends = g .ends ∙ next-is j;
             walks = ap (λ p. p .0) (q _) ∙ ap (λ (y : SemaContext). analyzeStmts t R″ y .0) c″ ∙ sym (ap (λ p. p .0) x) ∙ rw (mr, ms) (g .walks);
             says =

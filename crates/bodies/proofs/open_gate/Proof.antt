@@ -2,7 +2,7 @@
 use native.Mathlib.Omega.{arith}
 use borrow.Author.Needs.{needs}
 use Rattle.accepted.specs.Bodies.{stmt-left}
-use Rattle.accepted.specs.Stmts.{gateDef-name-in, gateDef-params, gateDef-qparams}
+use Rattle.accepted.specs.Stmts.{gateDef-named, gateDef-params, gateDef-qparams}
 use Rattle.promises.specs.Walks.{stateOf}
 use Rattle.bodies.proofs.Gates.{gate-opened}
 use Rattle.bodies.proofs.open_gate.Statement.{statement}
@@ -22,7 +22,7 @@ open-gate-spec =
     (λ c κs. search needs)  -- gate-parts-requires
     (λ c κs. search needs)  -- report-gate-requires
     (λ c. search needs)  -- sub-define-gate
-    (λ c. let s = c .before .before .before .before .before .before .before .before .before .before .before in let i = gateDef-name-in _ _ _ _ (s .pre .4) (s .pre .6) in omega arith)  -- add-define-gate
+    (λ c. let s = c .before .before .before .before .before .before .before .before .before .before .before in let i = gateDef-named _ _ _ _ (s .pre .4) (s .pre .6) .inside in omega arith)  -- add-define-gate
     define-gate-requires
     (λ c. search needs)  -- same-length
     (λ c. search needs)  -- same-length-2

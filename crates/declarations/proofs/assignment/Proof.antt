@@ -4,7 +4,7 @@ use borrow.Author.Needs.{needs}
 use Rattle.promises.specs.Walks.{stateOf}
 use Rattle.promises.specs.WalkLaws.{passed-ready}
 use Rattle.accepted.specs.Exprs.{expr-in}
-use Rattle.accepted.specs.Stmts.{assignment-name, assignment-name-in, assignment-op, assignment-value, assignment-inside}
+use Rattle.accepted.specs.Stmts.{assignment-named, assignment-op, assignment-value, assignment-inside}
 use Rattle.declarations.proofs.Targets.{checked-long, checked-inside, assignment-walked}
 use Rattle.declarations.proofs.assignment.Statement.{statement}
 use Rattle.declarations.proofs.assignment.Tie as tie
@@ -23,13 +23,13 @@ check-expr-requires c κs =
 add-u16-at : tie.Need-add-u16-at
 add-u16-at c =
     let s = c .before .before .before .before .before .before .before in
-    let i = assignment-name-in _ _ _ _ (s .pre .1) (s .pre .3) in
+    let i = assignment-named _ _ _ _ (s .pre .1) (s .pre .3) .inside in
     omega arith
 
 u16-at-requires : tie.Need-u16-at-requires
 u16-at-requires c κs =
     let s = c .before .before .before .before .before .before .before in
-    let i = assignment-name-in _ _ _ _ (s .pre .1) (s .pre .3) in
+    let i = assignment-named _ _ _ _ (s .pre .1) (s .pre .3) .inside in
     omega arith
 
 span-at-requires : tie.Need-span-at-requires
@@ -40,7 +40,7 @@ span-at-requires c κs =
 add-check-target : tie.Need-add-check-target
 add-check-target c =
     let s = c .before .before .before .before .before .before .before .before .before .before in
-    let i = assignment-name-in _ _ _ _ (s .pre .1) (s .pre .3) in
+    let i = assignment-named _ _ _ _ (s .pre .1) (s .pre .3) .inside in
     omega arith
 
 shared-slice-read-check-target : tie.Need-shared-slice-read-check-target
@@ -54,7 +54,7 @@ check-target-requires c κs =
     let s = c .before .before .before .before .before .before .before .before .before .before .before in
     let p = c .before .before .before .before .before .before .check-expr .ensures in
     let v = assignment-value _ _ _ _ (s .pre .1) (s .pre .3) in
-    (record { texts = s .pre .0 .texts; room = s .pre .0 .room; deep = omega arith; fits = p .emitted .fits }, rw (c .before .before .before .u16-at .ensures .0) (assignment-name _ _ _ _ (s .pre .1) (s .pre .3)), assignment-op _ _ _ _ (s .pre .1) (s .pre .3), checked-long _ _ _ v p, checked-inside _ _ _ v p)
+    (record { texts = s .pre .0 .texts; room = s .pre .0 .room; deep = omega arith; fits = p .emitted .fits }, rw (c .before .before .before .u16-at .ensures .0) (assignment-named _ _ _ _ (s .pre .1) (s .pre .3) .below), assignment-op _ _ _ _ (s .pre .1) (s .pre .3), checked-long _ _ _ v p, checked-inside _ _ _ v p)
 
 add-t16 : tie.Need-add-t16
 add-t16 c =

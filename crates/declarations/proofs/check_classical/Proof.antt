@@ -3,7 +3,7 @@ use native.Mathlib.Omega.{arith}
 use borrow.Author.Needs.{needs}
 use Rattle.accepted.specs.Bodies.{stmt-in}
 use Rattle.accepted.specs.Fields.{option-in}
-use Rattle.accepted.specs.Stmts.{classicalDecl-qualifier, classicalDecl-name-in, classicalDecl-init}
+use Rattle.accepted.specs.Stmts.{classicalDecl-qualifier, classicalDecl-named, classicalDecl-init}
 use Rattle.declarations.proofs.Classical.{rest-at}
 use Rattle.declarations.proofs.check_classical.Statement.{statement}
 use Rattle.declarations.proofs.check_classical.Tie as tie
@@ -11,7 +11,7 @@ use Rattle.declarations.proofs.check_classical.Tie as tie
 add-check-qualifier : tie.Need-add-check-qualifier
 add-check-qualifier c =
     let s = c .before .before .before .before .before .before in
-    let i = classicalDecl-name-in _ _ _ _ (s .pre .2) (s .pre .3) _ (c .before .skip-qualifier .ensures) in
+    let i = classicalDecl-named _ _ _ _ (s .pre .2) (s .pre .3) _ (c .before .skip-qualifier .ensures) .inside in
     omega arith
 
 shared-slice-read-check-qualifier : tie.Need-shared-slice-read-check-qualifier
@@ -22,13 +22,13 @@ shared-slice-read-check-qualifier c =
 add-check-init : tie.Need-add-check-init
 add-check-init c =
     let s = c .before .before .before .before .before .before .before .before .before .before .before in
-    let i = classicalDecl-name-in _ _ _ _ (s .pre .2) (s .pre .3) _ (c .before .before .before .before .before .before .skip-qualifier .ensures) in
+    let i = classicalDecl-named _ _ _ _ (s .pre .2) (s .pre .3) _ (c .before .before .before .before .before .before .skip-qualifier .ensures) .inside in
     omega arith
 
 type-at-requires : tie.Need-type-at-requires
 type-at-requires c κs =
     let s = c .before .before .before .before .before .before .before .before .before .before .before in
-    let i = classicalDecl-name-in _ _ _ _ (s .pre .2) (s .pre .3) _ (c .before .before .before .before .before .before .skip-qualifier .ensures) in
+    let i = classicalDecl-named _ _ _ _ (s .pre .2) (s .pre .3) _ (c .before .before .before .before .before .before .skip-qualifier .ensures) .inside in
     omega arith
 
 check-init-requires : tie.Need-check-init-requires

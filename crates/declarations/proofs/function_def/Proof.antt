@@ -4,7 +4,7 @@ use borrow.Author.Needs.{needs}
 use Rattle.promises.specs.Walks.{stateOf}
 use Rattle.promises.specs.WalkLaws.{passed-ready}
 use Rattle.accepted.specs.Bodies.{stmt-left}
-use Rattle.accepted.specs.Stmts.{functionDef-name-in}
+use Rattle.accepted.specs.Stmts.{functionDef-named}
 use Rattle.declarations.proofs.Declares.{room-kept}
 use Rattle.declarations.proofs.Functions.{function-walked}
 use Rattle.declarations.proofs.function_def.Statement.{statement}
@@ -13,13 +13,13 @@ use Rattle.declarations.proofs.function_def.Tie as tie
 add-define : tie.Need-add-define
 add-define c =
     let s = c .before .before .before .before .before .before in
-    let i = functionDef-name-in _ _ _ _ (s .pre .1) (s .pre .3) in
+    let i = functionDef-named _ _ _ _ (s .pre .1) (s .pre .3) .inside in
     omega arith
 
 add-check-body : tie.Need-add-check-body
 add-check-body c =
     let s = c .before .before .before .before .before .before .before .before .before .before .before .before .before in
-    let i = functionDef-name-in _ _ _ _ (s .pre .1) (s .pre .3) in
+    let i = functionDef-named _ _ _ _ (s .pre .1) (s .pre .3) .inside in
     omega arith
 
 check-body-requires : tie.Need-check-body-requires

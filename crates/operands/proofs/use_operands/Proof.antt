@@ -10,11 +10,11 @@ use Rattle.operands.proofs.use_operands.Statement.{statement}
 use Rattle.operands.proofs.use_operands.Tie as tie
 
 abbrev Inv-loop : tie.InvT-loop
-Inv-loop tree index scratch out₀ depth keys marks at span tree′ n₀ k₀ s₀ out n k s =
+Inv-loop tree index scratch out₀ depth keys marks at span scratch′ tree′ n₀ k₀ s₀ out n k s =
     Using (textsOf tree) tree (scopesOf scratch depth) (marksOf tree (keysIn index keys) marks) span at s₀ out₀ n k s out
 
 abbrev μ-loop : tie.MeasureT-loop
-μ-loop tree index scratch out₀ depth keys marks at span tree′ n₀ k₀ s₀ out n k s = n
+μ-loop tree index scratch out₀ depth keys marks at span scratch′ tree′ n₀ k₀ s₀ out n k s = n
 
 use-operand-requires : tie.Need-use-operand-requires Inv-loop μ-loop
 use-operand-requires c κs =

@@ -1,5 +1,5 @@
 -- `operations::gate_call` meets its contract. Assumes nothing.
-use Rattle.accepted.specs.Stmts.{gateCall-name-in, gateCall-modifiers}
+use Rattle.accepted.specs.Stmts.{gateCall-named, gateCall-modifiers}
 use Rattle.promises.specs.Walks.{stateOf}
 use Rattle.operations.proofs.Called.{call-name, call-params, call-args, call-in, call-walked}
 use borrow.Author.Needs.{needs}
@@ -13,7 +13,7 @@ gate-call-spec =
     (λ c κs. let p = c .before .before .before .pre in (p .2, p .4))  -- call-at-requires
     (λ c κs. let p = c .before .before .before .before .before .pre in let a = c .before .call-at in (p .0 .texts, p .1 .room, call-name _ _ _ (p .2) (p .4) (a .result) (a .ensures), p .1 .fits))  -- check-signature-requires
     (λ c. search needs)  -- sub-check-values
-    (λ c. let p = c .before .before .before .before .before .before .before .before .before .pre in let i = gateCall-name-in _ _ _ _ (p .2) (p .4) in omega arith)  -- add-check-values
+    (λ c. let p = c .before .before .before .before .before .before .before .before .before .pre in let i = gateCall-named _ _ _ _ (p .2) (p .4) .inside in omega arith)  -- add-check-values
     (λ c κs. let p = c .before .before .before .before .before .before .before .before .before .pre in let a = c .before .before .before .before .before .call-at in (p .0 .texts, p .1 .room, search needs, c .before .before .before .check-signature .ensures .fits, gateCall-modifiers _ _ _ _ (p .2) (p .4), call-params _ _ _ (p .2) (p .4) (a .result) (a .ensures)))  -- check-values-requires
     (λ c. search needs)  -- sub-check-args
     (λ c κs. let p = c .before .before .before .before .before .before .before .before .before .before .before .before .before .before .pre in let a = c .before .before .before .before .before .before .before .before .before .before .call-at in (p .0, p .1 .room, search needs, p .1 .placed, c .before .before .before .before .check-values .ensures .fits, call-args _ _ _ (p .2) (p .4) (a .result) (a .ensures)))  -- check-args-requires

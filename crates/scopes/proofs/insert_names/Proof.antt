@@ -19,15 +19,15 @@ abbrev μ-loop : tie.MeasureT-loop
 pub insert-names-spec : {M : Type 1} → statement M
 insert-names-spec =
     tie.close (tie.spec Inv-loop μ-loop
-    (λ c. counted-in _ _ _ _ _ (c .before .before .before .pre .4))  -- shared-slice-read-wide: let mut n = wide(tree[at]);
+    (λ c. search counted-in)  -- shared-slice-read-wide: let mut n = wide(tree[at]);
     (λ c κs. search needs)  -- wide-requires
     (λ c. let i = counted-in _ _ _ _ _ (c .before .before .before .before .pre .4) in omega arith)  -- add-k: let mut k = at + 1;
-    (λ c. filling-start _ _ _ _ _ _ _ (c .before .before .before .before .pre .4) (c .wide .ensures .0))  -- loop-holds: while 0 < n {
+    (λ c. search filling-start)  -- loop-holds: while 0 < n {
     (λ c κs. let i = text-in _ _ _ _ (filling-first _ _ _ _ _ _ _ _ _ (c .before .loop .inv) (c .loop-test .taken)) in omega arith)  -- u16-at-requires: let x = u16_at(tree, k);
     (λ c κs. let l = c .before .before .before .loop in let i = text-below _ _ _ _ (filling-first _ _ _ _ _ _ _ _ _ (l .inv) (c .before .before .loop-test .taken)) in omega (arith, l .inv .becomes .same-length))  -- insert-requires: tables::insert(scratch, depth, x, symbol);
     (λ c. let i = text-in _ _ _ _ (filling-first _ _ _ _ _ _ _ _ _ (c .before .before .before .before .before .before .loop .inv) (c .before .before .before .before .before .loop-test .taken)) in omega arith)  -- add-k-2: k += 2;
     (λ c. search needs)  -- sub-n: n -= 1;
     (λ c. search needs)  -- loop-less: while 0 < n {
     (λ c. let l = c .before .before .before .before .before .before .loop in filling-more _ _ _ _ _ _ _ _ _ (l .inv) (c .before .before .before .before .before .loop-test .taken) _ _ (name-read _ _ _ (filling-first _ _ _ _ _ _ _ _ _ (l .inv) (c .before .before .before .before .before .loop-test .taken)) _ (c .before .before .before .before .u16-at .ensures .0)) _ (c .before .before .insert .ensures))  -- loop-again
-    (λ c. c .before .loop .inv .becomes .same-length)  -- same-length: fn insert_names(
-    (λ c. filling-end _ _ _ _ _ _ _ _ _ (c .before .loop .inv) (c .loop-test .left)))  -- returns
+    (λ c. search needs)  -- same-length: fn insert_names(
+    (λ c. search filling-end))  -- returns

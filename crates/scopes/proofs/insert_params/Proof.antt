@@ -2,9 +2,9 @@
 use Rattle.tree.specs.Stmts.{param}
 use Rattle.tree.specs.Decode.{textsOf}
 use Rattle.accepted.specs.Fields.{counted-in}
-use Rattle.accepted.specs.Operands.{param-name}
+use Rattle.accepted.specs.Operands.{param-named}
 use Rattle.scopes.specs.Scopes.{typed}
-use Rattle.scopes.proofs.Filling.{Filling, filling-start, filling-first, filling-more, filling-end, param-read, param-in}
+use Rattle.scopes.proofs.Filling.{Filling, filling-start, filling-first, filling-more, filling-end, param-read}
 use native.Mathlib.Omega.{arith}
 use borrow.Author.Needs.{needs}
 use Rattle.scopes.proofs.insert_params.Statement.{statement}
@@ -22,17 +22,17 @@ loop-again c = let l = c .before .before .before .before .before .before .before
 pub insert-params-spec : {M : Type 1} → statement M
 insert-params-spec =
     tie.close (tie.spec Inv-loop μ-loop
-    (λ c. counted-in _ _ _ _ _ (c .before .before .before .pre .4))  -- shared-slice-read-wide: let mut n = wide(tree[at]);
+    (λ c. search counted-in)  -- shared-slice-read-wide: let mut n = wide(tree[at]);
     (λ c κs. search needs)  -- wide-requires
     (λ c. let i = counted-in _ _ _ _ _ (c .before .before .before .before .pre .4) in omega arith)  -- add-k: let mut k = at + 1;
-    (λ c. filling-start _ _ _ _ _ _ _ (c .before .before .before .before .pre .4) (c .wide .ensures .0))  -- loop-holds: while 0 < n {
-    (λ c κs. let i = param-in _ _ _ (filling-first _ _ _ _ _ _ _ _ _ (c .before .loop .inv) (c .loop-test .taken)) in omega arith)  -- type-at-requires: let ty = type_at(tree, k);
-    (λ c. let i = param-in _ _ _ (filling-first _ _ _ _ _ _ _ _ _ (c .before .before .loop .inv) (c .before .loop-test .taken)) in omega arith)  -- add-u16-at: let x = u16_at(tree, k + 1);
-    (λ c κs. let i = param-in _ _ _ (filling-first _ _ _ _ _ _ _ _ _ (c .before .before .loop .inv) (c .before .loop-test .taken)) in omega arith)  -- u16-at-requires
-    (λ c κs. let l = c .before .before .before .before .loop in let i = param-name _ _ _ (filling-first _ _ _ _ _ _ _ _ _ (l .inv) (c .before .before .before .loop-test .taken)) in omega (arith, l .inv .becomes .same-length))  -- insert-requires: tables::insert(scratch, depth, x, symbol);
-    (λ c. let i = param-in _ _ _ (filling-first _ _ _ _ _ _ _ _ _ (c .before .before .before .before .before .before .before .loop .inv) (c .before .before .before .before .before .before .loop-test .taken)) in omega arith)  -- add-k-2: k += 3;
+    (λ c. search filling-start)  -- loop-holds: while 0 < n {
+    (λ c κs. let i = param-named _ _ _ (filling-first _ _ _ _ _ _ _ _ _ (c .before .loop .inv) (c .loop-test .taken)) .inside in omega arith)  -- type-at-requires: let ty = type_at(tree, k);
+    (λ c. let i = param-named _ _ _ (filling-first _ _ _ _ _ _ _ _ _ (c .before .before .loop .inv) (c .before .loop-test .taken)) .inside in omega arith)  -- add-u16-at: let x = u16_at(tree, k + 1);
+    (λ c κs. let i = param-named _ _ _ (filling-first _ _ _ _ _ _ _ _ _ (c .before .before .loop .inv) (c .before .loop-test .taken)) .inside in omega arith)  -- u16-at-requires
+    (λ c κs. let l = c .before .before .before .before .loop in let i = param-named _ _ _ (filling-first _ _ _ _ _ _ _ _ _ (l .inv) (c .before .before .before .loop-test .taken)) .below in omega (arith, l .inv .becomes .same-length))  -- insert-requires: tables::insert(scratch, depth, x, symbol);
+    (λ c. let i = param-named _ _ _ (filling-first _ _ _ _ _ _ _ _ _ (c .before .before .before .before .before .before .before .loop .inv) (c .before .before .before .before .before .before .loop-test .taken)) .inside in omega arith)  -- add-k-2: k += 3;
     (λ c. search needs)  -- sub-n: n -= 1;
     (λ c. search needs)  -- loop-less: while 0 < n {
     loop-again
-    (λ c. c .before .loop .inv .becomes .same-length)  -- same-length: fn insert_params(tree: &[u8], scratch: &mut [u8], depth: usi ..
-    (λ c. filling-end _ _ _ _ _ _ _ _ _ (c .before .loop .inv) (c .loop-test .left)))  -- returns
+    (λ c. search needs)  -- same-length: fn insert_params(tree: &[u8], scratch: &mut [u8], depth: usi ..
+    (λ c. search filling-end))  -- returns

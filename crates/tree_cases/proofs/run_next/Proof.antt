@@ -1,8 +1,7 @@
 -- `tree_cases::run_next` meets its contract. Assumes nothing.
-use mathlib.Core.Path.{sym, ap}
-use native.Mathlib.Omega.{arith}
+use mathlib.Core.Path.{sym}
 use lib.Seq.{length-take-le}
-use Rattle.cases.specs.Case.{sizeOf}
+use Rattle.cases.proofs.Fits.{tree-fits}
 use borrow.Author.Needs.{needs}
 use Rattle.tree_cases.proofs.run_next.Statement.{statement}
 use Rattle.tree_cases.proofs.run_next.Tie as tie
@@ -13,8 +12,8 @@ run-next-spec =
     (λ c κs. search needs)  -- next-requires
     (λ c. search needs)  -- enum-told
     (λ c. search needs)  -- enum-known-n
-    (λ c. omega (arith, c .before .before .before .before .before .next .ensures, ap sizeOf (c .before .n .given .1), c .before .before .before .before .space .given))  -- slice-reshare-prefix-validate
-    (λ c. sym (length-take-le _ _ (omega (arith, c .before .before .before .before .before .before .next .ensures, ap sizeOf (c .before .before .n .given .1), c .before .before .before .before .before .space .given))))  -- slice-aggregate-validate
+    (λ c. search (needs, tree-fits))  -- slice-reshare-prefix-validate
+    (λ c. sym (length-take-le _ _ (search (needs, tree-fits))))  -- slice-aggregate-validate
     (λ c κs. search needs)  -- validate-requires
     (λ c κs. search needs)  -- print-requires
     (λ c. search needs)  -- same-length

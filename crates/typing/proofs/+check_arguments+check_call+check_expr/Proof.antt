@@ -8,7 +8,7 @@ use Rattle.context.specs.View.{scopesOf, functionsOf}
 use Rattle.tables.specs.Tables.{paramsOf}
 use Rattle.text.proofs.Unlike.{unlike}
 use Rattle.accepted.specs.Fields.{counted-in}
-use Rattle.accepted.specs.Exprs.{expr-in, expr-left, expr-forward, intLit-inside, floatLit-inside, boolLit-inside, ident-inside, ident-name, index-inside, index-name, call-name, call-name-in, call-args, call-inside, const-inside, neg-inner, neg-inside, operation, pair-lhs, pair-rhs, pair-inside}
+use Rattle.accepted.specs.Exprs.{expr-in, expr-left, expr-forward, intLit-inside, floatLit-inside, boolLit-inside, ident-inside, ident-named, index-inside, index-named, call-named, call-args, call-inside, const-inside, neg-inner, neg-inside, operation, pair-lhs, pair-rhs, pair-inside}
 use Rattle.typing.proofs.Names.{name-below}
 use Rattle.accepted.specs.Spans.{span-room, span-in}
 use Rattle.typing.proofs.Exprs.{int-typing, float-typing, bool-typing, const-typing, ident-typing, index-typing, neg-typing, pair-typing}
@@ -101,16 +101,16 @@ module _ (t : ℕ) where
   check-call-add-next c = let p = c .before .before .before .before .before .before .pre .1 in let i = call-inside _ _ _ _ (p .2) (p .3) _ (c .before .skip-exprs .ensures) in omega arith
 
   check-call-check-callee-requires : check-call-asks check-call-lts.Need-check-callee-requires
-  check-call-check-callee-requires c κs = let p = c .before .before .before .before .before .before .before .before .before .pre .1 in (p .0 .texts, p .0 .room, p .1, name-below (c .before .before .before .before .before .u16-at .ensures .0) (call-name _ _ _ _ (p .2) (p .3)))
+  check-call-check-callee-requires c κs = let p = c .before .before .before .before .before .before .before .before .before .pre .1 in (p .0 .texts, p .0 .room, p .1, name-below (c .before .before .before .before .before .u16-at .ensures .0) (call-named _ _ _ _ (p .2) (p .3) .below))
 
   check-call-add-check-arguments : check-call-asks check-call-lts.Need-add-check-arguments
-  check-call-add-check-arguments c = let p = c .before .before .before .before .before .before .before .before .before .before .before .before .before .before .pre .1 in let i = call-name-in _ _ _ _ (p .2) (p .3) in omega arith
+  check-call-add-check-arguments c = let p = c .before .before .before .before .before .before .before .before .before .before .before .before .before .before .pre .1 in let i = call-named _ _ _ _ (p .2) (p .3) .inside in omega arith
 
   check-call-sub-check-arguments : check-call-asks check-call-lts.Need-sub-check-arguments
   check-call-sub-check-arguments c = let l = expr-left _ _ _ _ (c .before .before .before .before .before .before .before .before .before .before .before .before .before .before .pre .1 .2) in omega arith
 
   check-call-check-arguments-requires : check-call-asks check-call-lts.Need-check-arguments-requires
-  check-call-check-arguments-requires c κs = let p = c .before .before .before .before .before .before .before .before .before .before .before .before .before .before .pre .1 in let i = call-name-in _ _ _ _ (p .2) (p .3) in (omega arith, (p .0, c .before .before .before .before .check-callee .ensures .emitted .fits, name-below (c .before .before .before .before .before .before .before .before .before .before .u16-at .ensures .0) (call-name _ _ _ _ (p .2) (p .3)), c .before .before .before .before .check-callee .ensures .params, call-args _ _ _ _ (p .2) (p .3)))
+  check-call-check-arguments-requires c κs = let p = c .before .before .before .before .before .before .before .before .before .before .before .before .before .before .pre .1 in let i = call-named _ _ _ _ (p .2) (p .3) .inside in (omega arith, (p .0, c .before .before .before .before .check-callee .ensures .emitted .fits, name-below (c .before .before .before .before .before .before .before .before .before .before .u16-at .ensures .0) (call-named _ _ _ _ (p .2) (p .3) .below), c .before .before .before .before .check-callee .ensures .params, call-args _ _ _ _ (p .2) (p .3)))
 
   check-call-returns : check-call-asks check-call-lts.Need-returns
   check-call-returns c = let p = c .before .before .before .before .before .before .before .before .before .before .before .before .before .before .before .before .before .pre .1 in call-typing _ _ _ _ _ _ (p .2) (p .3) (c .before .before .before .before .before .before .before .before .before .before .before .before .before .u16-at .ensures .0) (c .before .before .before .before .before .before .before .before .before .before .before .before .skip-exprs .ensures) (c .before .before .before .before .before .before .before .before .before .before .before .span-at .ensures) (c .before .before .before .before .before .before .before .before .before .wide .ensures .0) (c .before .before .before .before .before .before .before .check-callee .ensures) (c .before .before .check-arguments .ensures)
@@ -119,13 +119,13 @@ module _ (t : ℕ) where
   check-call-closed =
       check-call-lts.spec check-call-calls check-call-at check-call.Post
       (λ c. let i = expr-in _ _ _ _ (c .before .before .before .pre .1 .2) in omega arith)  -- add-u16-at: let x = u16_at(tree, at + 1);
-      (λ c κs. let p = c .before .before .before .pre .1 in let i = call-name-in _ _ _ _ (p .2) (p .3) in omega arith)  -- u16-at-requires
-      (λ c. let p = c .before .before .before .before .pre .1 in let i = call-name-in _ _ _ _ (p .2) (p .3) in omega arith)  -- add-skip-exprs: let end = skip_exprs(tree, at + 3, left - 1);
+      (λ c κs. let p = c .before .before .before .pre .1 in let i = call-named _ _ _ _ (p .2) (p .3) .inside in omega arith)  -- u16-at-requires
+      (λ c. let p = c .before .before .before .before .pre .1 in let i = call-named _ _ _ _ (p .2) (p .3) .inside in omega arith)  -- add-skip-exprs: let end = skip_exprs(tree, at + 3, left - 1);
       (λ c. let l = expr-left _ _ _ _ (c .before .before .before .before .pre .1 .2) in omega arith)  -- sub-skip-exprs
       (λ c κs. let p = c .before .before .before .before .pre .1 in call-args _ _ _ _ (p .2) (p .3))  -- skip-exprs-requires
       (λ c κs. let p = c .before .before .before .before .before .pre .1 in call-inside _ _ _ _ (p .2) (p .3) _ (c .skip-exprs .ensures))  -- span-at-requires: let span = span_at(tree, end);
       check-call-add-next
-      (λ c. let p = c .before .before .before .before .before .before .pre .1 in let i = call-name-in _ _ _ _ (p .2) (p .3) in omega arith)  -- add-wide: let n = wide(tree[at + 3]);
+      (λ c. let p = c .before .before .before .before .before .before .pre .1 in let i = call-named _ _ _ _ (p .2) (p .3) .inside in omega arith)  -- add-wide: let n = wide(tree[at + 3]);
       (λ c. let p = c .before .before .before .before .before .before .before .pre .1 in counted-in _ _ _ _ _ (call-args _ _ _ _ (p .2) (p .3)))  -- shared-slice-read-wide
       (λ c κs. search needs)  -- wide-requires
       check-call-check-callee-requires check-call-add-check-arguments check-call-sub-check-arguments
@@ -140,10 +140,10 @@ module _ (t : ℕ) where
   check-expr-asks Need = Need check-expr-calls check-expr-at check-expr.Post
 
   check-expr-check-ident-requires : check-expr-asks check-expr-lts.Need-check-ident-requires
-  check-expr-check-ident-requires c κs = let p = c .before .before .before .before .before .before .pre .1 in (p .0, p .1, ident-inside _ _ _ _ (p .2) (c .before .match .keys4), ident-name _ _ _ _ (p .2) (c .before .match .keys4))
+  check-expr-check-ident-requires c κs = let p = c .before .before .before .before .before .before .pre .1 in (p .0, p .1, ident-inside _ _ _ _ (p .2) (c .before .match .keys4), ident-named _ _ _ _ (p .2) (c .before .match .keys4) .below)
 
   check-expr-check-index-requires : check-expr-asks check-expr-lts.Need-check-index-requires
-  check-expr-check-index-requires c κs = let p = c .before .before .before .before .before .before .pre .1 in (p .0, p .1, index-inside _ _ _ _ (p .2) (c .before .match .keys5), index-name _ _ _ _ (p .2) (c .before .match .keys5))
+  check-expr-check-index-requires c κs = let p = c .before .before .before .before .before .before .pre .1 in (p .0, p .1, index-inside _ _ _ _ (p .2) (c .before .match .keys5), index-named _ _ _ _ (p .2) (c .before .match .keys5) .below)
 
   check-expr-check-expr-requires : check-expr-asks check-expr-lts.Need-check-expr-requires
   check-expr-check-expr-requires c κs = let p = c .before .before .before .before .before .before .pre .1 in let i = expr-in _ _ _ _ (p .2) in (omega arith, (p .0, p .1, neg-inner _ _ _ _ (p .2) (c .before .match .keys8)))

@@ -2,7 +2,7 @@
 use mathlib.Core.List.{[], _∷_}
 use Rattle.tree.specs.Stmts.{modifier}
 use Rattle.sema.specs.Exprs.{checkModifiers}
-use mathlib.Core.Path.{_≡_, refl}
+use mathlib.Core.Path.{_≡_}
 use lib.ListN.{length}
 use native.Mathlib.Omega.{arith}
 use Rattle.tree.specs.Decode.{textsOf}
@@ -28,13 +28,13 @@ loop-again c = (modifiers-more _ _ _ (c .before .before .before .before .before 
 pub check-modifiers-spec : {M : Type 1} → statement M
 check-modifiers-spec =
     tie.close (tie.spec Inv-loop μ-loop
-    (λ c. counted-in _ _ _ _ _ (c .before .before .before .before .pre .2))  -- shared-slice-read-wide
+    (λ c. search counted-in)  -- shared-slice-read-wide
     (λ c κs. search needs)  -- wide-requires
     (λ c. let i = counted-in _ _ _ _ _ (c .before .before .before .before .before .pre .2) in omega arith)  -- add-next
-    (λ c. let p = c .before .before .before .before .before .pre in (saying-start _ (p .2) (c .wide .ensures .0) (p .1), refl))  -- loop-holds
+    (λ c. search saying-start)  -- loop-holds
     check-modifier-requires
     (λ c. search needs)  -- sub-n
     (λ c. search needs)  -- loop-less
     loop-again
     (λ c. search needs)  -- same-length
-    (λ c. modifiers-end _ _ _ (c .before .loop .inv .0) (c .loop-test .left)))  -- returns
+    (λ c. search modifiers-end))  -- returns

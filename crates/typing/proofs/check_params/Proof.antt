@@ -3,7 +3,7 @@ use Rattle.ast.specs.Tree.{noExpr, moreExpr}
 use Rattle.tree.specs.Stmts.{held}
 use Rattle.sema.specs.Stmts.{paramsSay}
 use Rattle.promises.specs.Typings.{plainContext}
-use mathlib.Core.Path.{_≡_, refl}
+use mathlib.Core.Path.{_≡_}
 use lib.ListN.{length}
 use native.Mathlib.Omega.{arith}
 use Rattle.tree.specs.Decode.{textsOf}
@@ -29,13 +29,13 @@ loop-again c = (params-more _ _ _ (c .before .before .before .before .before .be
 pub check-params-spec : {M : Type 1} → statement M
 check-params-spec =
     tie.close (tie.spec Inv-loop μ-loop
-    (λ c. counted-in _ _ _ _ _ (c .before .before .before .before .pre .2))  -- shared-slice-read-wide
+    (λ c. search counted-in)  -- shared-slice-read-wide
     (λ c κs. search needs)  -- wide-requires
     (λ c. let i = counted-in _ _ _ _ _ (c .before .before .before .before .before .pre .2) in omega arith)  -- add-next
-    (λ c. let p = c .before .before .before .before .before .pre in (saying-start _ (p .2) (c .wide .ensures .0) (p .1), refl))  -- loop-holds
+    (λ c. search saying-start)  -- loop-holds
     require-numeric-requires
     (λ c. search needs)  -- sub-n
     (λ c. search needs)  -- loop-less
     loop-again
     (λ c. search needs)  -- same-length
-    (λ c. params-end _ _ _ (c .before .loop .inv .0) (c .loop-test .left)))  -- returns
+    (λ c. search params-end))  -- returns

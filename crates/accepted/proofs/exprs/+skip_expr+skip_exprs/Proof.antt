@@ -6,9 +6,9 @@ use Rattle.tree.specs.Ans.{nextOf}
 use Rattle.tree.specs.Exprs.{expr, exprs}
 use Rattle.tree.specs.Decode.{textsOf}
 use Rattle.accepted.specs.Parts.{next-is}
-use Rattle.accepted.specs.Fields.{counted-in}
+use Rattle.accepted.specs.Fields.{counted-in, repeat-first}
 use Rattle.accepted.specs.Remains.{Remains, remains-start, remains-more, remains-end}
-use Rattle.accepted.specs.Exprs.{expr-in, expr-left, args-first, intLit-inside, intLit-is, floatLit-inside, floatLit-is, boolLit-inside, boolLit-is, ident-inside, ident-is, index-inside, index-is, call-args, call-inside, call-is, const-inside, const-is, neg-inner, neg-inside, neg-is, operation, pair-lhs, pair-rhs, pair-next, pair-inside}
+use Rattle.accepted.specs.Exprs.{expr-in, expr-left, intLit-inside, intLit-is, floatLit-inside, floatLit-is, boolLit-inside, boolLit-is, ident-inside, ident-is, index-inside, index-is, call-args, call-inside, call-is, const-inside, const-is, neg-inner, neg-inside, neg-is, operation, pair-lhs, pair-rhs, pair-next, pair-inside}
 use Rattle.text.proofs.Unlike.{unlike}
 use native.Mathlib.Omega.{arith}
 use borrow.Author.Needs.{needs}
@@ -19,7 +19,6 @@ use Rattle.accepted.proofs.exprs.+skip_expr+skip_exprs.Lts-skip_expr as
 use Rattle.accepted.proofs.exprs.skip_exprs.Reads as skip-exprs
 use Rattle.accepted.proofs.exprs.+skip_expr+skip_exprs.Lts-skip_exprs as skip-exprs-lts
 use Rattle.text.proofs as text
-use Rattle.accepted.proofs as fns
 use Rattle.accepted.proofs.exprs.+skip_expr+skip_exprs.{statement}
 use Rattle.accepted.proofs.exprs.+skip_expr+skip_exprs.Tie.{close}
 
@@ -104,7 +103,7 @@ module _ (t : ℕ) where
       (λ c κs. search needs)  -- wide-requires
       (λ c. let i = counted-in _ _ _ _ _ (c .before .before .before .pre .1) in omega arith)  -- add-k: let mut k = at + 1;
       (λ c. remains-start _ _ _ _ _ _ (c .before .before .before .pre .1) (c .wide .ensures .0))  -- loop-holds: while 0 < n {
-      (λ c κs. (omega arith, args-first _ _ _ _ _ (c .before .loop .inv .rest) (c .loop-test .taken)))  -- skip-expr-requires: k = skip_expr(s, k, left);
+      (λ c κs. (omega arith, repeat-first _ _ _ _ _ _ (c .before .loop .inv .rest) (c .loop-test .taken)))  -- skip-expr-requires: k = skip_expr(s, k, left);
       (λ c. search needs)  -- sub-n: n -= 1;
       (λ c. search needs)  -- loop-less: while 0 < n {
       (λ c. remains-more (c .before .before .loop .inv) (c .before .loop-test .taken) (c .skip-expr .ensures))  -- loop-again

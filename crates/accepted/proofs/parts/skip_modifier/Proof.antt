@@ -1,6 +1,6 @@
 -- `accepted::parts::skip_modifier` meets its contract. Assumes nothing.
-use Rattle.accepted.specs.Operands.{modifier-in, inv-inside, pow-exponent, pow-inside, control-count, control-inside}
-use Rattle.accepted.proofs.SkipParts.{inv-next, pow-next, control-next}
+use Rattle.accepted.specs.Operands.{modifier-in, inv-inside, pow-exponent, pow-inside, control-count, control-inside, control-next}
+use Rattle.accepted.proofs.SkipParts.{inv-next, pow-next}
 use native.Mathlib.Omega.{arith}
 use borrow.Author.Needs.{needs}
 use Rattle.accepted.proofs.parts.skip_modifier.Statement.{statement}

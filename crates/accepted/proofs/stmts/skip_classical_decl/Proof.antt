@@ -2,7 +2,7 @@
 use mathlib.Core.Path.{sym}
 use Rattle.accepted.specs.Parts.{next-is}
 use Rattle.accepted.specs.Bodies.{stmt-in}
-use Rattle.accepted.specs.Stmts.{classicalDecl-qualifier, classicalDecl-init, classicalDecl-name-in, classicalDecl-inside, classicalDecl-is}
+use Rattle.accepted.specs.Stmts.{classicalDecl-qualifier, classicalDecl-named, classicalDecl-init, classicalDecl-inside, classicalDecl-is}
 use native.Mathlib.Omega.{arith}
 use Rattle.accepted.proofs.stmts.skip_classical_decl.Statement.{statement}
 use Rattle.accepted.proofs.stmts.skip_classical_decl.Tie as tie
@@ -18,6 +18,6 @@ skip-classical-decl-spec =
     tie.close (tie.spec
     (λ c. let i = stmt-in _ _ _ _ (c .before .pre .0) in omega arith)  -- add-skip-qualifier
     (λ c κs. classicalDecl-qualifier _ _ _ _ (c .before .pre .0) (c .before .pre .1))  -- skip-qualifier-requires
-    (λ c. let i = classicalDecl-name-in _ _ _ _ (c .before .before .pre .0) (c .before .before .pre .1) _ (c .skip-qualifier .ensures) in omega arith)  -- add-skip-option-expr
+    (λ c. let i = classicalDecl-named _ _ _ _ (c .before .before .pre .0) (c .before .before .pre .1) _ (c .skip-qualifier .ensures) .inside in omega arith)  -- add-skip-option-expr
     (λ c κs. classicalDecl-init _ _ _ _ (c .before .before .pre .0) (c .before .before .pre .1) _ (c .skip-qualifier .ensures))  -- skip-option-expr-requires
     add-result returns)

@@ -3,19 +3,16 @@ use mathlib.Core.Path.{_≡_}
 use Prim.Native.Nat.{ℕ, _+_, _≤_, _<_}
 use lib.ListN.{length}
 use mir.Syntax.{tyInt, w64}
-use contract.Running.{givenOf, tables, tablesOf}
+use contract.Running.{givenOf}
 use denote.Plain.{uint-lawful}
 use denote.Builtin.{usize}
 use denote.Ref.{now}
-use denote.Triple.Spec.{tripleOf}
-use denote.Triple.Table.{entered, cited}
 use Rattle.context.specs.View.{numberAt}
 use Rattle.accepted.specs.declared.tree_reader.TreeReader.{TreeReader}
-use Rattle.accepted.proofs.Thin.{Cited, thin-meets}
+use Rattle.accepted.proofs.Thin.{thin-spec}
 use Rattle.accepted.proofs.numbers.u16_at.Symbol.{name as #u16-at, routine as called}
 use Rattle.accepted.proofs.numbers.u16_at.Met.{met}
 use Rattle.accepted.proofs.tree_reader.text.Key.{name as #text}
-use Rattle.accepted.proofs.tree_reader.text as text
 use Rattle.accepted.proofs.tree_reader.text.Statement.{statement}
 use Rattle.accepted.proofs.tree_reader.text.Code as code
 
@@ -26,9 +23,6 @@ abbrev Says : TreeReader → ℕ → Type 0
 Says d r = (r ≡ numberAt 2 (now (d .tree)) (d .at)) × (r < 65536)
 
 pub text-spec : {M : Type 1} → statement M
-unfolding code.routine tablesOf
+unfolding code.routine
 text-spec 𝓤 H 𝓜 𝓖 𝓡 =
-    entered 𝓤 H (tripleOf 𝓤 H (𝓖 .A) text.signature (text.spec 𝓤 H (𝓖 .A) (𝓜 .mem) (𝓡 .run)))
-    (tables 𝓤 H 𝓜 𝓡 code.env .C) (tables 𝓤 H 𝓜 𝓡 code.env .Λ) #text code.function (code.unfolded 𝓤 H 𝓜 𝓡)
-    (thin-meets usize Asks Says 𝓤 H (𝓖 .A) (givenOf 𝓤 H 𝓜 𝓖) (tyInt w64) (λ r u is. uint-lawful 𝓤 H (𝓖 .A) (givenOf 𝓤 H 𝓜 𝓖) w64 .typed r _ is .0) #u16-at (tablesOf 𝓤 H 𝓜 (tables 𝓤 H 𝓜 𝓡 code.env))
-    (cited 𝓤 H (Cited usize Asks Says 𝓤 H (𝓖 .A)) 𝓜 𝓡 code.env #u16-at called code.calls-accepted·numbers·u16-at (met 𝓤 H 𝓜 𝓖 𝓡)))
+    thin-spec usize Asks Says 𝓤 H 𝓜 𝓖 𝓡 code.env (tyInt w64) (λ r u is. uint-lawful 𝓤 H (𝓖 .A) (givenOf 𝓤 H 𝓜 𝓖) w64 .typed r _ is .0) #u16-at called code.calls-accepted·numbers·u16-at #text (code.unfolded 𝓤 H 𝓜 𝓡) (met 𝓤 H 𝓜 𝓖 𝓡)

@@ -1,7 +1,7 @@
 -- `bodies::gate_defs::gate_parts` meets its contract. Assumes nothing.
 use native.Mathlib.Omega.{arith}
 use Rattle.accepted.specs.Bodies.{stmt-left}
-use Rattle.accepted.specs.Stmts.{gateDef-name-in, gateDef-params, gateDef-qparams, gateDef-body, gateDef-inside}
+use Rattle.accepted.specs.Stmts.{gateDef-named, gateDef-params, gateDef-qparams, gateDef-body, gateDef-inside}
 use Rattle.bodies.proofs.Gates.{parts-of}
 use Rattle.bodies.proofs.gate_defs.gate_parts.Statement.{statement}
 use Rattle.bodies.proofs.gate_defs.gate_parts.Tie as tie
@@ -9,9 +9,9 @@ use Rattle.bodies.proofs.gate_defs.gate_parts.Tie as tie
 pub gate-parts-spec : {M : Type 1} → statement M
 gate-parts-spec =
     tie.close (tie.spec
-    (λ c. let i = gateDef-name-in _ _ _ _ (c .before .pre .0) (c .before .pre .1) in omega arith)  -- add-u16-at
-    (λ c κs. let i = gateDef-name-in _ _ _ _ (c .before .pre .0) (c .before .pre .1) in omega arith)  -- u16-at-requires
-    (λ c. let i = gateDef-name-in _ _ _ _ (c .before .before .pre .0) (c .before .before .pre .1) in omega arith)  -- add-skip-names
+    (λ c. let i = gateDef-named _ _ _ _ (c .before .pre .0) (c .before .pre .1) .inside in omega arith)  -- add-u16-at
+    (λ c κs. let i = gateDef-named _ _ _ _ (c .before .pre .0) (c .before .pre .1) .inside in omega arith)  -- u16-at-requires
+    (λ c. let i = gateDef-named _ _ _ _ (c .before .before .pre .0) (c .before .before .pre .1) .inside in omega arith)  -- add-skip-names
     (λ c κs. gateDef-params _ _ _ _ (c .before .before .pre .0) (c .before .before .pre .1))  -- skip-names-requires
     (λ c κs. gateDef-qparams _ _ _ _ (c .before .before .before .pre .0) (c .before .before .before .pre .1) _ (c .skip-names .ensures))  -- skip-names-requires-2
     (λ c. let i = stmt-left _ _ _ _ (c .before .before .before .before .pre .0) in omega arith)  -- sub-skip-body

@@ -2,13 +2,15 @@
 use Rattle.ast.specs.Tree.{noExpr, moreExpr}
 use Rattle.tree.specs.Read.{repeat}
 use Rattle.tree.specs.Decode.{textsOf}
-use Rattle.tree.specs.Exprs.{expr, exprs}
+use Rattle.tree.specs.Exprs.{expr, exprs, exprCases}
+use Rattle.tree.specs.Levels.{expr-levels}
 use Rattle.reading.specs.Answers.{forget}
 use mathlib.Core.Path.{_≡_}
-use Rattle.forms.proofs.Cases.{arm-pair, expressions}
+use Rattle.forms.proofs.Cases.{expr-arm, arm-pair}
 use Rattle.text.proofs.Unlike.{unlike}
 use Rattle.reading.proofs.Values.{vecs}
 use Rattle.reading.proofs.Runs.{runs-stop, runs-end}
+use Rattle.reading.proofs.Levels.{level-refused, level-over}
 use Rattle.forms.proofs.Fields.{fields}
 use borrow.Author.Needs.{needs}
 use Prim.Native.Nat.{ℕ, _<_, _+_, _*_}
@@ -124,14 +126,15 @@ module _ (t : ℕ) where
   read-expr-calls = (reading.numbers.read_case.Reads.Asked, reading.numbers.read_case.Reads.Learnt, reading.answers.ReadByte.into_read.Reads.Asked, reading.answers.ReadByte.into_read.Reads.Learnt, fns.exprs.read_int_lit.Reads.Asked, fns.exprs.read_int_lit.Reads.Learnt, fns.exprs.read_float_lit.Reads.Asked, fns.exprs.read_float_lit.Reads.Learnt, fns.exprs.read_bool_lit.Reads.Asked, fns.exprs.read_bool_lit.Reads.Learnt, fns.exprs.read_ident.Reads.Asked, fns.exprs.read_ident.Reads.Learnt, fns.exprs.read_index.Reads.Asked, fns.exprs.read_index.Reads.Learnt, read-call-below, read-call.Post, fns.exprs.read_const.Reads.Asked, fns.exprs.read_const.Reads.Learnt, read-neg-below, read-neg.Post, fns.exprs.operators.Reads.Asked, fns.exprs.operators.Reads.Learnt, read-pair-below, read-pair.Post)
 
   read-expr-closed : {M : Type 1} → read-expr-lts.Closed read-expr-calls read-expr-at read-expr.Post M
+  unfolding exprCases
   read-expr-closed =
       read-expr-lts.spec read-expr-calls read-expr-at read-expr.Post
       (λ c κs. search needs)  -- read-case-requires: let a = read_case(s, at, EXPR_CASES);
       (λ c. search needs)  -- enum-known-a: let ReadByte::At(b, k) = a else {
       (λ c. search needs)  -- enum-told: return a.into_read();
       (λ c κs. search needs)  -- into-read-requires
-      (λ c. search expressions)  -- returns
-      (λ c. search expressions)  -- returns-2: return Read::Refused(6, at);
+      (λ c. level-refused (expr-levels _) _ _ _ _ (c .before .before .before .read-case .ensures) _ _ (c .before .enum-told .given .1) _ (c .into-read .ensures))  -- returns
+      (λ c. level-over (expr-levels _) _ _ _ _ (c .before .before .before .before .read-case .ensures) _ _ (c .before .before .a .given .1) (c .if1 .taken))  -- returns-2: return Read::Refused(6, at);
       (λ c κs. search needs)  -- read-int-lit-requires: 0 => read_int_lit(s, k),
       (λ c κs. search needs)  -- read-float-lit-requires: 1 => read_float_lit(s, kinds, k),
       (λ c κs. search needs)  -- read-bool-lit-requires: 2 => read_bool_lit(s, k),
@@ -145,14 +148,14 @@ module _ (t : ℕ) where
       (λ c. search needs)  -- sub-read-pair: _ => read_pair(s, kinds, k, left - 1, operators(b)),
       (λ c κs. search needs)  -- operators-requires
       (λ c κs. search needs)  -- read-pair-requires
-      (λ c. search expressions)  -- returns-3: fn read_expr(s: &[u8], kinds: &[u8], at: usize, left: usize) ..
-      (λ c. search expressions)  -- returns-4
-      (λ c. search expressions)  -- returns-5
-      (λ c. search expressions)  -- returns-6
-      (λ c. search expressions)  -- returns-7
-      (λ c. search expressions)  -- returns-8
-      (λ c. search expressions)  -- returns-9
-      (λ c. search expressions)  -- returns-10
+      (λ c. search expr-arm)  -- returns-3: fn read_expr(s: &[u8], kinds: &[u8], at: usize, left: usize) ..
+      (λ c. search expr-arm)  -- returns-4
+      (λ c. search expr-arm)  -- returns-5
+      (λ c. search expr-arm)  -- returns-6
+      (λ c. search expr-arm)  -- returns-7
+      (λ c. search expr-arm)  -- returns-8
+      (λ c. search expr-arm)  -- returns-9
+      (λ c. search expr-arm)  -- returns-10
       (λ c. arm-pair _ _ _ _ _ (c .before .before .before .before .before .before .before .read-case .ensures) _ _ (c .before .before .before .before .before .a .given .1) (c .before .before .before .if1 .left) _ (unlike 8 _ (c .before .before .match2 .rest)) _ (c .before .operators .ensures) (c .read-pair .ensures))  -- returns-11
 
   abbrev read-neg-calls : read-neg-lts.Claims

@@ -70,36 +70,36 @@ message-plan-spec =
     (λ c κs. search needs)  -- plain-requires-6
     (λ c. search needs)  -- enum-told-7
     (λ c κs. search needs)  -- plain-requires-7
-    (λ c κs. of-types (c .match .keys32))  -- type-plan-requires
-    (λ c. arm planOf (c .before .before .message .given .1) (c .named .ensures))  -- returns
-    (λ c. arm planOf (c .before .before .message2 .given .1) (c .named2 .ensures))  -- returns-2
-    (λ c. arm planOf (c .before .before .message3 .given .1) (c .expected-plan .ensures))  -- returns-3
-    (λ c. arm planOf (c .before .before .message4 .given .1) (c .named3 .ensures))  -- returns-4
-    (λ c. arm planOf (c .before .before .message5 .given .1) (c .numbered .ensures))  -- returns-5
-    (λ c. arm planOf (c .before .before .message6 .given .1) (c .named4 .ensures))  -- returns-6
-    (λ c. arm planOf (c .before .before .message7 .given .1) (c .numbered2 .ensures))  -- returns-7
-    (λ c. arm planOf (c .before .before .message8 .given .1) (c .named5 .ensures))  -- returns-8
-    (λ c. arm planOf (c .before .before .message9 .given .1) (c .numbered3 .ensures))  -- returns-9
-    (λ c. arm planOf (c .before .before .message10 .given .1) (c .operand-plan .ensures))  -- returns-10
-    (λ c. arm planOf (c .before .before .message11 .given .1) (c .named6 .ensures))  -- returns-11
-    (λ c. arm planOf (c .before .before .message12 .given .1) (c .named7 .ensures))  -- returns-12
-    (λ c. arm planOf (c .before .before .message13 .given .1) (c .typed .ensures))  -- returns-13
-    (λ c. arm planOf (c .before .before .message14 .given .1) (c .typed2 .ensures))  -- returns-14
-    (λ c. arm planOf (c .before .enum-told .given .1) (c .plain .ensures))  -- returns-15
-    (λ c. arm planOf (c .before .before .message15 .given .1) (c .named8 .ensures))  -- returns-16
-    (λ c. arm planOf (c .before .before .message16 .given .1) (c .named9 .ensures))  -- returns-17
-    (λ c. arm planOf (c .before .before .message17 .given .1) (c .numbered4 .ensures))  -- returns-18
-    (λ c. arm planOf (c .before .before .message18 .given .1) (c .qubits-plan .ensures))  -- returns-19
-    (λ c. arm planOf (c .before .before .message19 .given .1) (c .named10 .ensures))  -- returns-20
-    (λ c. arm planOf (c .before .enum-told2 .given .1) (c .plain2 .ensures))  -- returns-21
-    (λ c. arm planOf (c .before .enum-told3 .given .1) (c .plain3 .ensures))  -- returns-22
-    (λ c. arm planOf (c .before .before .message20 .given .1) (c .named11 .ensures))  -- returns-23
-    (λ c. arm planOf (c .before .before .message21 .given .1) (c .named12 .ensures))  -- returns-24
-    (λ c. arm planOf (c .before .before .message22 .given .1) (c .typed3 .ensures))  -- returns-25
-    (λ c. arm planOf (c .before .before .message23 .given .1) (c .numbered5 .ensures))  -- returns-26
-    (λ c. arm planOf (c .before .before .message24 .given .1) (c .operand-plan2 .ensures))  -- returns-27
-    (λ c. arm planOf (c .before .enum-told4 .given .1) (c .plain4 .ensures))  -- returns-28
-    (λ c. arm planOf (c .before .enum-told5 .given .1) (c .plain5 .ensures))  -- returns-29
-    (λ c. arm planOf (c .before .enum-told6 .given .1) (c .plain6 .ensures))  -- returns-30
-    (λ c. arm planOf (c .before .enum-told7 .given .1) (c .plain7 .ensures))  -- returns-31
-    (λ c. c .type-plan .ensures))  -- returns-32
+    (λ c κs. search of-types)  -- type-plan-requires
+    (λ c. search (arm planOf))  -- returns
+    (λ c. search (arm planOf))  -- returns-2
+    (λ c. search (arm planOf))  -- returns-3
+    (λ c. search (arm planOf))  -- returns-4
+    (λ c. search (arm planOf))  -- returns-5
+    (λ c. search (arm planOf))  -- returns-6
+    (λ c. search (arm planOf))  -- returns-7
+    (λ c. search (arm planOf))  -- returns-8
+    (λ c. search (arm planOf))  -- returns-9
+    (λ c. search (arm planOf))  -- returns-10
+    (λ c. search (arm planOf))  -- returns-11
+    (λ c. search (arm planOf))  -- returns-12
+    (λ c. search (arm planOf))  -- returns-13
+    (λ c. search (arm planOf))  -- returns-14
+    (λ c. search (arm planOf))  -- returns-15
+    (λ c. search (arm planOf))  -- returns-16
+    (λ c. search (arm planOf))  -- returns-17
+    (λ c. search (arm planOf))  -- returns-18
+    (λ c. search (arm planOf))  -- returns-19
+    (λ c. search (arm planOf))  -- returns-20
+    (λ c. search (arm planOf))  -- returns-21
+    (λ c. search (arm planOf))  -- returns-22
+    (λ c. search (arm planOf))  -- returns-23
+    (λ c. search (arm planOf))  -- returns-24
+    (λ c. search (arm planOf))  -- returns-25
+    (λ c. search (arm planOf))  -- returns-26
+    (λ c. search (arm planOf))  -- returns-27
+    (λ c. search (arm planOf))  -- returns-28
+    (λ c. search (arm planOf))  -- returns-29
+    (λ c. search (arm planOf))  -- returns-30
+    (λ c. search (arm planOf))  -- returns-31
+    (λ c. search needs))  -- returns-32

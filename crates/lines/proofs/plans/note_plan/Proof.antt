@@ -26,12 +26,12 @@ note-plan-spec =
     (λ c κs. search needs)  -- plain-requires-3
     (λ c. search needs)  -- enum-told-4
     (λ c κs. search needs)  -- plain-requires-4
-    (λ c. arm notePlan (c .before .before .note .given .1) (c .named .ensures))  -- returns
-    (λ c. arm notePlan (c .before .before .note2 .given .1) (c .declared-plan .ensures))  -- returns-2
-    (λ c. arm notePlan (c .before .before .note3 .given .1) (c .numbered .ensures))  -- returns-3
-    (λ c. arm notePlan (c .before .before .note4 .given .1) (c .named2 .ensures))  -- returns-4
-    (λ c. arm notePlan (c .before .enum-told .given .1) (c .plain .ensures))  -- returns-5
-    (λ c. arm notePlan (c .before .before .note5 .given .1) (c .named3 .ensures))  -- returns-6
-    (λ c. arm notePlan (c .before .enum-told2 .given .1) (c .plain2 .ensures))  -- returns-7
-    (λ c. arm notePlan (c .before .enum-told3 .given .1) (c .plain3 .ensures))  -- returns-8
-    (λ c. arm notePlan (c .before .enum-told4 .given .1) (c .plain4 .ensures)))  -- returns-9
+    (λ c. search (arm notePlan))  -- returns
+    (λ c. search (arm notePlan))  -- returns-2
+    (λ c. search (arm notePlan))  -- returns-3
+    (λ c. search (arm notePlan))  -- returns-4
+    (λ c. search (arm notePlan))  -- returns-5
+    (λ c. search (arm notePlan))  -- returns-6
+    (λ c. search (arm notePlan))  -- returns-7
+    (λ c. search (arm notePlan))  -- returns-8
+    (λ c. search (arm notePlan)))  -- returns-9

@@ -2,12 +2,14 @@
 use Rattle.ast.specs.Tree.{noStmt, moreStmt}
 use Rattle.tree.specs.Read.{repeat}
 use Rattle.tree.specs.Decode.{textsOf}
-use Rattle.tree.specs.Stmts.{stmt, body}
+use Rattle.tree.specs.Stmts.{stmt, stmtCases, body}
+use Rattle.tree.specs.Levels.{stmt-levels}
 use Rattle.reading.specs.Answers.{forget}
 use mathlib.Core.Path.{_≡_}
 use Rattle.reader.proofs.Cases.{statements, bodies, else-is}
 use Rattle.reading.proofs.Values.{vecs, options, case-there}
 use Rattle.reading.proofs.Runs.{runs-stop, runs-end}
+use Rattle.reading.proofs.Levels.{level-refused, level-over}
 use Rattle.reader.proofs.Fields.{body-fields}
 use borrow.Author.Needs.{needs}
 use Prim.Native.Nat.{ℕ, _<_, _+_, _*_}
@@ -219,14 +221,15 @@ module _ (t : ℕ) where
   read-stmt-calls = (reading.numbers.read_case.Reads.Asked, reading.numbers.read_case.Reads.Learnt, reading.answers.ReadByte.into_read.Reads.Asked, reading.answers.ReadByte.into_read.Reads.Learnt, forms.stmts.read_include.Reads.Asked, forms.stmts.read_include.Reads.Learnt, forms.stmts.read_register.Reads.Asked, forms.stmts.read_register.Reads.Learnt, forms.stmts.read_classical_decl.Reads.Asked, forms.stmts.read_classical_decl.Reads.Learnt, forms.stmts.read_assignment.Reads.Asked, forms.stmts.read_assignment.Reads.Learnt, forms.stmts.read_gate_call.Reads.Asked, forms.stmts.read_gate_call.Reads.Learnt, read-gate-def-below, read-gate-def.Post, forms.stmts.read_function_def.Reads.Asked, forms.stmts.read_function_def.Reads.Learnt, forms.stmts.read_measure.Reads.Asked, forms.stmts.read_measure.Reads.Learnt, forms.stmts.read_reset.Reads.Asked, forms.stmts.read_reset.Reads.Learnt, forms.stmts.read_barrier.Reads.Asked, forms.stmts.read_barrier.Reads.Learnt, forms.stmts.read_delay.Reads.Asked, forms.stmts.read_delay.Reads.Learnt, read-if-below, read-if.Post, read-for-below, read-for.Post, read-while-below, read-while.Post)
 
   read-stmt-closed : {M : Type 1} → read-stmt-lts.Closed read-stmt-calls read-stmt-at read-stmt.Post M
+  unfolding stmtCases
   read-stmt-closed =
       read-stmt-lts.spec read-stmt-calls read-stmt-at read-stmt.Post
       (λ c κs. search needs)  -- read-case-requires: let a = read_case(s, at, STMT_CASES);
       (λ c. search needs)  -- enum-known-a: let ReadByte::At(b, _) = a else {
       (λ c. search needs)  -- enum-told: return a.into_read();
       (λ c κs. search needs)  -- into-read-requires
-      (λ c. search statements)  -- returns
-      (λ c. search statements)  -- returns-2: return Read::Refused(6, at);
+      (λ c. level-refused (stmt-levels _) _ _ _ _ (c .before .before .before .read-case .ensures) _ _ (c .before .enum-told .given .1) _ (c .into-read .ensures))  -- returns
+      (λ c. level-over (stmt-levels _) _ _ _ _ (c .before .before .before .before .read-case .ensures) _ _ (c .before .before .a .given .1) (c .if1 .taken))  -- returns-2: return Read::Refused(6, at);
       (λ c κs. search (needs, case-there))  -- read-include-requires: 0 => stmts::read_include(s, kinds, at),
       (λ c κs. search (needs, case-there))  -- read-register-requires: 1 => stmts::read_register(s, kinds, at),
       (λ c κs. search (needs, case-there))  -- read-register-requires-2: 2 => stmts::read_register(s, kinds, at),

@@ -10,9 +10,6 @@ is-name-spec =
     (λ c. search spelled)  -- returns
     (λ c. search needs)  -- shared-slice-read-is-letter
     (λ c κs. search needs)  -- is-letter-requires
-    (λ c. search needs)  -- sub-all-of
-    (λ c. search needs)  -- part-all-of-start
-    (λ c. search needs)  -- part-all-of-end
     (λ c κs. search needs)  -- all-of-requires
     (λ c. search spelled)  -- returns-2
     (λ c. search spelled))  -- returns-3
