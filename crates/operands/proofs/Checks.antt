@@ -1,6 +1,6 @@
 -- What is said of an operand: one law for each way out of the checks of its kind, its bounds and the whole. Assumes nothing.
 use Prim.Native.Nat.{ℕ, _≤_, _<_}
-use mathlib.Core.Path.{_≡_, sym, _∙_}
+use mathlib.Core.Path.{_≡_, refl, sym, _∙_}
 use mathlib.Core.Bool.{Bool, true, false, _&&_, _||_, false≢true}
 use mathlib.Core.List.{List, [], _∷_, _++_}
 use lib.Dec.{leb, ltb}
@@ -29,6 +29,20 @@ both-asked a b x y e f g = g ∙ rw (← e, f)
 
 pub first-fails : (a b x : Bool) → x ≡ a → x ≡ false → false ≡ (a && b)
 first-fails a b x e f = rw (← e, f)
+
+pub both-first : (a b : Bool) → (a && b) ≡ true → a ≡ true
+both-first true b e = refl
+both-first false b e = e
+
+pub both-second : (a b : Bool) → (a && b) ≡ true → b ≡ true
+both-second true b e = e
+both-second false b e = absurd (false≢true e)
+
+-- nothing said
+pub nothing-is : (xs : List Messages.Diagnostic) → nothing xs ≡ true → xs ≡ []
+unfolding nothing
+nothing-is [] e = refl
+nothing-is (d ∷ ds) e = absurd (false≢true e)
 
 -- a test of the ends of a slice
 pub slice-in : (a b n : ℕ) → a ≤ b → ltb b n ≡ (leb a b && ltb b n)
@@ -91,9 +105,7 @@ module _ {t : List Text} {s : Sink} {o : List ℕ} where
 
   -- of an operand of which nothing is said only the use is said
   pub use-alone : {r : Sink} {o′ : List ℕ} (xs ys : List Messages.Diagnostic) (b : Bool) → b ≡ nothing xs → b ≡ true → Emitted t ys s o r o′ → Emitted t (xs ++ ys) s o r o′
-  unfolding nothing
-  use-alone [] ys b e f h = h
-  use-alone (d ∷ ds) ys b e f h = absurd (false≢true (sym e ∙ f))
+  use-alone xs ys b e f h = rw (nothing-is xs (sym e ∙ f)) h
 
 pub ruleset kind-said = (kind-fits, kind-unfit)
 

@@ -114,12 +114,12 @@ module _ (tree : List ℕ) (ks : List Key) (sheet : List ℕ) where
   covered-is x a b c d e = sym (ap (coveredOf tree) e ∙ smallest-marks tree ks sheet x a b d)
 
   -- without a slice
-  module _ (op : Operand) (sp : Span) (f : op .slice ≡ Ends.None) (q : ℕ) (e : q ≡ lookupIn ks sheet (op .name) (numberOf (op .index))) where
-    use-by : (at : Option Span) → markBy tree q ≡ at → usedSays (operandOf op) sp at ≡ checkUseAfterMeasure (marksOf tree ks sheet) (operandOf op) sp
+  module _ (op : Operand) (sp : Span) (f : endsOf (op .slice) ≡ none) (q : ℕ) (e : q ≡ lookupIn ks sheet (op .name) (numberOf (op .index))) where
+    pub use-by : (at : Option Span) → markBy tree q ≡ at → usedSays (operandOf op) sp at ≡ checkUseAfterMeasure (marksOf tree ks sheet) (operandOf op) sp
     unfolding useBy
     use-by at g =
         ap (usedSays (operandOf op) sp) (sym g ∙ ap (markBy tree) e ∙ lookup-marks tree ks sheet (op .name) (numberOf (op .index)))
-        ∙ ap (useBy (marksOf tree ks sheet) (operandOf op) sp) (sym (ap endsOf f))
+        ∙ ap (useBy (marksOf tree ks sheet) (operandOf op) sp) (sym f)
 
 -- what is said
 module _ {t : List Text} {s : Sink} {o : List ℕ} (tree : List ℕ) (ks : List Key) (sheet : List ℕ) (sp : Span) where
@@ -144,13 +144,13 @@ module _ {t : List Text} {s : Sink} {o : List ℕ} (tree : List ℕ) (ks : List 
     module _ (f : op .slice ≡ Ends.None) (q : ℕ) (e : q ≡ lookupIn ks sheet (op .name) (numberOf (op .index))) where
       pub use-none : SinkFits s → q ≡ 0 → Emitted t (checkUseAfterMeasure (marksOf tree ks sheet) (operandOf op) sp) s o s o
       unfolding usedSays
-      use-none h z = emitted-as (emitted-none h) (use-by tree ks sheet op sp f q e none (mark-none tree q z))
+      use-none h z = emitted-as (emitted-none h) (use-by tree ks sheet op sp (ap endsOf f) q e none (mark-none tree q z))
 
       pub use-marked : (at : Span) → (q ≡ 0 → ⊥) → at ≡ measureSpan tree q
           → {v : Diagnostic} {r : Sink} {o′ : List ℕ} → v ≡ errorWithNoteOf (Message.Used op) sp Note.MeasuredHere at → Reported t v s o r o′
           → Emitted t (checkUseAfterMeasure (marksOf tree ks sheet) (operandOf op) sp) s o r o′
       unfolding usedSays
-      use-marked at z g j p = emitted-as (emitted-report j p) (use-by tree ks sheet op sp f q e (some at) (mark-some tree q z ∙ rw g))
+      use-marked at z g j p = emitted-as (emitted-report j p) (use-by tree ks sheet op sp (ap endsOf f) q e (some at) (mark-some tree q z ∙ rw g))
 
 pub ruleset slice-uses = (slice-unused, slice-used)
 

@@ -23,7 +23,7 @@ use Rattle.context.specs.declared.Sink.{Sink}
 use Rattle.context.specs.Sink.{SinkFits}
 use Rattle.context.specs.Values.{numberOf, operandOf}
 use Rattle.accepted.specs.Cases.{blankOperand}
-use Rattle.accepted.specs.Parts.{valueOr, next-is, value-is, given-ok}
+use Rattle.accepted.specs.Parts.{valueOr, next-is, value-is, given-is, given-ok}
 use Rattle.accepted.specs.Fields.{counted-is, repeat-none, repeat-first, repeat-is}
 use Rattle.accepted.specs.Remains.{Remains, remains-start, remains-more}
 use Rattle.accepted.specs.Counts.{vec-size}
@@ -33,6 +33,11 @@ use Rattle.lines.specs.Values.{errorOf, Reported}
 use Rattle.promises.specs.Emitted.{Emitted, emitted-none, emitted-then, emitted-as, emitted-report}
 use Rattle.operands.specs.declared.widths.Widths.{Widths}
 use Rattle.operands.specs.Widths.{uniform, agree, widths-say}
+use Rattle.operands.specs.Says.{nothing}
+use Rattle.operands.specs.Singles.{isSingle, passing}
+use Rattle.operands.proofs.Checks.{both-first, both-second, nothing-is}
+use Rattle.operands.proofs.WidthLaws.{width-single}
+use Rattle.operands.proofs.SingleLaws.{single-is, single-inside}
 
 -- n operands from k on
 abbrev pub left : List Text → List ℕ → ℕ → ℕ → List GateOperand
@@ -50,11 +55,14 @@ module _ (t : List Text) (s : List ℕ) (at : ℕ) where
     pub left-first : 0 < n → IsOk (operand t s k)
     left-first l = repeat-first s k [] _∷_ (operand t) n (m .rest) l
 
-    module _ (l : 0 < n) (op : Operand) (next : ℕ) (e : operand t s k ≡ ok (operandOf op) next) where
+    pub left-inside : 0 < n → isSingle s k ≡ true → k + 20 ≤ length s
+    left-inside l e = single-inside t s k (left-first l) e
+
+    module _ (l : 0 < n) (op : GateOperand) (next : ℕ) (e : operand t s k ≡ ok op next) where
       left-next : Left (n - 1) next
       left-next = remains-more m l (sym (next-is e))
 
-      left-is : left t s n k ≡ operandOf op ∷ left t s (n - 1) next
+      left-is : left t s n k ≡ op ∷ left t s (n - 1) next
       left-is =
           value-is (repeat-is s k [] _∷_ (operand t) n (m .rest) l next (sym (next-is e)) blankOperand) []
           ∙ ap (λ (o : GateOperand). o ∷ left t s (n - 1) next) (value-is e blankOperand)
@@ -79,8 +87,8 @@ module _ (t : List Text) (tree : List ℕ) (ss : Symbols) (m : Marks) (sp : Span
   }
 
   module _ (n k : ℕ) (r : Sink) (o′ : List ℕ) (u : Using t tree ss m sp at s o n k r o′) where
-    pub using-more : 0 < n → (op : Operand) (next : ℕ) → operand t tree k ≡ ok (operandOf op) next → (q : Sink) (o″ : List ℕ) → length o″ ≡ length o′
-        → Emitted t (checkOperand ss (operandOf op) aQubit ++ checkUseAfterMeasure m (operandOf op) sp) r o′ q o″
+    pub using-more : 0 < n → (op : GateOperand) (next : ℕ) → operand t tree k ≡ ok op next → (q : Sink) (o″ : List ℕ) → length o″ ≡ length o′
+        → Emitted t (checkOperand ss op aQubit ++ checkUseAfterMeasure m op sp) r o′ q o″
         → Using t tree ss m sp at s o (n - 1) next q o″
     unfolding useOperands
     using-more l op next e q o″ g p = record {
@@ -89,6 +97,20 @@ module _ (t : List Text) (tree : List ℕ) (ss : Symbols) (m : Marks) (sp : Span
       same-length = g ∙ u .same-length;
       all = λ z. u .all (emitted-as (emitted-then p z) (sym (ap (useOperands ss m sp) (left-is t tree at n k (u .remains) l op next e))));
     }
+
+    -- past an operand of which nothing is said
+    module _ (l : 0 < n) (b : Bool) (f : (p : Span) → b ≡ passing t tree ss m p k) (e : b ≡ true) where
+      using-single : isSingle tree k ≡ true
+      using-single = both-first _ _ (sym (f sp) ∙ e)
+
+      pub using-inside : k + 20 ≤ length tree
+      using-inside = left-inside t tree at n k (u .remains) l using-single
+
+      pub using-pass : Using t tree ss m sp at s o (n - 1) (k + 20) r o′
+      using-pass =
+          let i = single-is t tree k (left-first t tree at n k (u .remains) l) using-single in
+          let z = sym (given-is i false (λ op. nothing (checkOperand ss op aQubit ++ checkUseAfterMeasure m op sp))) ∙ both-second (isSingle tree k) _ (sym (f sp) ∙ e) in
+          using-more l _ (k + 20) i r o′ refl (emitted-as (emitted-none (u .fits)) (sym (nothing-is _ z)))
 
     pub using-end : n ≤ 0 → Emitted t (given [] (useOperands ss m sp) (vec (operand t) tree at)) s o r o′
     unfolding useOperands
@@ -108,13 +130,23 @@ module _ (t : List Text) (tree : List ℕ) (ss : Symbols) (at : ℕ) where
   }
 
   module _ (n k : ℕ) (met : Widths) (u : Meeting t tree ss at n k met) where
+    meeting-step : 0 < n → (op : GateOperand) (next : ℕ) → operand t tree k ≡ ok op next → (r : Widths) → ((ws : List ℕ) → agree r ws ≡ agree met (wide (operandWidth ss op) ws))
+        → Meeting t tree ss at (n - 1) next r
+    unfolding registerWidths
+    meeting-step l op next e r g = record {
+      remains = left-next t tree at n k (u .remains) l op next e;
+      all = g _ ∙ ap (λ ops. agree met (registerWidths ss ops)) (sym (left-is t tree at n k (u .remains) l op next e)) ∙ u .all;
+    }
+
     pub meeting-more : 0 < n → (op : Operand) (next : ℕ) → operand t tree k ≡ ok (operandOf op) next → (width : Number) → numberOf width ≡ operandWidth ss (operandOf op)
         → (r : Widths) → ((ws : List ℕ) → agree r ws ≡ agree met (wide (numberOf width) ws)) → Meeting t tree ss at (n - 1) next r
-    unfolding registerWidths
-    meeting-more l op next e width f r g = record {
-      remains = left-next t tree at n k (u .remains) l op next e;
-      all = g _ ∙ rw f (ap (λ ops. agree met (registerWidths ss ops)) (sym (left-is t tree at n k (u .remains) l op next e))) ∙ u .all;
-    }
+    meeting-more l op next e width f r g = meeting-step l (operandOf op) next e r (λ ws. rw (← f) (g ws))
+
+    -- past an operand with an index and no slice
+    pub meeting-single : 0 < n → (b : Bool) → b ≡ isSingle tree k → b ≡ true → Meeting t tree ss at (n - 1) (k + 20) met
+    meeting-single l b f e =
+        meeting-step l _ (k + 20) (single-is t tree k (left-first t tree at n k (u .remains) l) (sym f ∙ e)) met
+        (λ ws. ap (agree met) (width-single ss _ refl refl ws))
 
     pub meeting-end : n ≤ 0 → agree met [] ≡ given true (λ ops. uniform (registerWidths ss ops)) (vec (operand t) tree at)
     unfolding registerWidths

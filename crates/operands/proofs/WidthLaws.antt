@@ -1,14 +1,14 @@
 -- Widths of operands: one law for each way out. Assumes nothing.
 use Prim.Native.Nat.{ℕ, suc, _+_, _-_, _≤_, _<_}
-use mathlib.Core.Path.{_≡_}
+use mathlib.Core.Path.{_≡_, refl}
 use mathlib.Core.List.{List, _∷_}
-use mathlib.Core.Option.{none, some}
+use mathlib.Core.Option.{Option, none, some}
 use native.Mathlib.Omega.{arith}
 use native.Mathlib.Numerals.{add-one}
 use borrow.Author.Tests.{eq-eqb, ne-eqb, lt-ltb, le-ltb, le-leb, lt-leb}
 use Rattle.span.specs.declared.Span.{Span}
-use Rattle.ast.specs.Tree.{Text}
-use Rattle.sema.specs.Symbols.{Symbols, get}
+use Rattle.ast.specs.Tree.{Text, GateOperand}
+use Rattle.sema.specs.Symbols.{Symbols, Symbol, get}
 use Rattle.sema.specs.Operands.{sliceWidth, widthBy, operandWidth}
 use Rattle.sema.specs.Stmts.{wide, allEqual}
 use Rattle.context.specs.declared.Number.{Number}
@@ -72,6 +72,15 @@ module _ (ss : Symbols) (op : Operand) (found : FoundSymbol) (e : foundOf found 
       → numberOf r ≡ widthBy (numberOf (v .size)) (endsOf (op .slice)) (numberOf (op .index)) → numberOf r ≡ operandWidth ss (operandOf op)
   unfolding operandWidth
   width-found r f g = rw (← e, f, operandWidth) g
+
+-- an operand with an index and no slice has no width above 1
+pub width-single : (ss : Symbols) (op : GateOperand) {i : ℕ} → op .slice ≡ none → op .index ≡ some i → (ws : List ℕ) → ws ≡ wide (operandWidth ss op) ws
+unfolding operandWidth widthBy wide
+width-single ss op e f ws = go (get ss (op .name)) refl
+  where
+    go : (found : Option Symbol) → get ss (op .name) ≡ found → ws ≡ wide (operandWidth ss op) ws
+    go none g = rw (g, operandWidth)
+    go (some sym) g = rw (g, operandWidth, e, f)
 
 -- one width more
 module _ (met : Widths) (w : ℕ) (ws : List ℕ) where

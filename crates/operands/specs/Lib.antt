@@ -1,2 +1,3 @@
 pub mod Says
+pub mod Singles
 pub mod Widths

@@ -1,6 +1,7 @@
 // Checks of operands over accepted bytes: check_operand, operand_width, check_use_after_measure.
 mod bounds;
 mod kinds;
+mod singles;
 mod uses;
 mod widths;
 
@@ -16,6 +17,8 @@ use lines::Message;
 use lines::Note;
 use lines::error;
 use lines::error_with_note;
+use singles::is_single;
+use singles::single_at;
 use span::Span;
 use text::wide;
 use widths::Widths;
@@ -38,6 +41,7 @@ ghost use Rattle.lines.specs.Values.{expectedOf};
 ghost use Rattle.sheet.specs.Sheet.{Indexed, Distinct};
 ghost use Rattle.promises.specs.Emitted.{Emitted};
 ghost use Rattle.operands.specs.Says.{nothing};
+ghost use Rattle.operands.specs.Singles.{passing};
 ghost use Rattle.operands.specs.Widths.{measureWidths, uniform, agree};
 
 pub fn check_operand(
@@ -189,6 +193,30 @@ fn use_operand(
     check_use_after_measure(tree, index, out, keys, marks, op, span, s)
 }
 
+// Has such an operand an index and no slice, and is there nothing to say of it?
+fn passes(
+    tree: &[u8],
+    index: &Index,
+    scratch: &[u8],
+    depth: usize,
+    keys: usize,
+    marks: &[u16; 256],
+    at: usize,
+) -> bool
+    requires { ⌜ TextsAt (now tree) (now index) × (65536 ≤ length (now scratch)) × (depth ≤ 9) × Indexed (now index) keys × Distinct (keysIn (now index) keys) × IsOk (operand (textsOf (now tree)) (now tree) at) ⌝ }
+    ensures { λ r. ⌜ ((sp : Span) → r ≡ passing (textsOf (now (tree .entry))) (now (tree .entry)) (scopesOf (now (scratch .entry)) depth) (marksOf (now (tree .entry)) (keysIn (now (index .entry)) keys) (now (marks .entry))) sp at) ⌝ }
+{
+    if is_single(tree, at) {
+        let op = single_at(tree, at);
+        if is_quiet(scratch, depth, op, Expected::Qubit) {
+            let i = op.index;
+            return sheet::lookup(marks, index, keys, op.name, i) == 0;
+        }
+        return false;
+    }
+    false
+}
+
 // A Vec of them.
 pub fn use_operands(
     tree: &[u8],
@@ -211,10 +239,14 @@ pub fn use_operands(
     let mut k = at + 1;
     let mut s = sink;
     while 0 < n {
-        let r = operand_at(tree, k);
-        let op = r.operand;
-        s = use_operand(tree, index, scratch, out, depth, keys, marks, op, span, s);
-        k = r.next;
+        if passes(tree, index, scratch, depth, keys, marks, k) {
+            k += 20;
+        } else {
+            let r = operand_at(tree, k);
+            let op = r.operand;
+            s = use_operand(tree, index, scratch, out, depth, keys, marks, op, span, s);
+            k = r.next;
+        }
         n -= 1;
     }
     s
@@ -232,11 +264,15 @@ fn register_widths(tree: &[u8], scratch: &[u8], depth: usize, at: usize) -> Widt
         return met;
     }
     while 0 < n {
-        let r = operand_at(tree, k);
-        let op = r.operand;
-        let width = operand_width(scratch, depth, op);
-        met = widths::meet(met, width);
-        k = r.next;
+        if is_single(tree, k) {
+            k += 20;
+        } else {
+            let r = operand_at(tree, k);
+            let op = r.operand;
+            let width = operand_width(scratch, depth, op);
+            met = widths::meet(met, width);
+            k = r.next;
+        }
         n -= 1;
     }
     met
