@@ -2,6 +2,7 @@
 use Prim.Native.Nat.{ℕ, _+_, _*_, _≤_, _<_}
 use mathlib.Core.Path.{_≡_, sym}
 use mathlib.Core.List.{List}
+use mathlib.Core.Bool.{true}
 use native.Mathlib.Omega.{arith}
 use lib.ListN.{length, getD}
 use Rattle.ast.specs.Tree.{Text}
@@ -13,6 +14,7 @@ use Rattle.accepted.specs.Fields.{option-in}
 use Rattle.accepted.specs.Ends.{Moves, option-inside}
 use Rattle.accepted.specs.Sizes.{Sized, optionEnd, option-end, vec-end}
 use Rattle.accepted.specs.Operands as of
+use Rattle.accepted.specs.Singles.{isSingle, single-is}
 
 module _ {A : Type 0} (p : Reader A) (size : ℕ) (z : Sized p size) (s : List ℕ) (at : ℕ) where
   pub option-room : Moves p → IsOk (option p s at) → (at < length s) × (optionEnd s at size ≤ length s)
@@ -27,6 +29,9 @@ module _ {A : Type 0} (p : Reader A) (size : ℕ) (z : Sized p size) (s : List �
 module _ (t : List Text) (s : List ℕ) (at : ℕ) where
   pub operand-next : IsOk (operand t s at) → (k : ℕ) → k ≡ nextOf (option u64 s (at + 2)) → (m : ℕ) → m ≡ nextOf (option slice s k) → m + 8 ≡ nextOf (operand t s at)
   operand-next h k e m f = sym (next-is (of.operand-is t s at h k e m f))
+
+  pub single-next : IsOk (operand t s at) → isSingle s at ≡ true → at + 20 ≡ nextOf (operand t s at)
+  single-next h e = sym (next-is (single-is t s at h e))
 
   pub range-next : IsOk (forRange t s at) → (k : ℕ) → k ≡ nextOf (held t s at) → (m : ℕ) → m ≡ nextOf (held t s k) → (n : ℕ) → n ≡ nextOf (option (held t) s m) → n ≡ nextOf (forRange t s at)
   range-next h k e m f n g = sym (next-is (of.forRange-is t s at h k e m f n g))

@@ -9,6 +9,7 @@ pub mod Levels
 pub mod Exprs
 pub mod Spans
 pub mod Operands
+pub mod Singles
 pub mod Sizes
 pub mod Bodies
 pub mod Stmts

@@ -4,5 +4,6 @@ pub mod exprs;
 pub mod numbers;
 pub mod operands;
 pub mod parts;
+pub mod singles;
 pub mod stmts;
 pub mod tree_reader;

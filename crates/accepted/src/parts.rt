@@ -10,6 +10,7 @@ ghost use Rattle.tree.specs.Decode.{textsOf};
 ghost use Rattle.accepted.specs.Sizes.{optionEnd};
 use crate::exprs::skip_expr;
 use crate::exprs::skip_option_expr;
+use crate::singles::is_single;
 use text::wide;
 
 // The place past an Option of a value of so many bytes.
@@ -67,6 +68,9 @@ pub fn skip_operand(s: &[u8], at: usize) -> usize
     requires { ⌜ IsOk (operand (textsOf (now s)) (now s) at) ⌝ }
     ensures { λ r. ⌜ r ≡ nextOf (operand (textsOf (now (s .entry))) (now (s .entry)) at) ⌝ }
 {
+    if is_single(s, at) {
+        return at + 20; // a branch that is guessed, and no chain of loads
+    }
     let k = skip_number(s, at + 2);
     skip_ends(s, k) + 8
 }

@@ -30,14 +30,6 @@ both-asked a b x y e f g = g ∙ rw (← e, f)
 pub first-fails : (a b x : Bool) → x ≡ a → x ≡ false → false ≡ (a && b)
 first-fails a b x e f = rw (← e, f)
 
-pub both-first : (a b : Bool) → (a && b) ≡ true → a ≡ true
-both-first true b e = refl
-both-first false b e = e
-
-pub both-second : (a b : Bool) → (a && b) ≡ true → b ≡ true
-both-second true b e = e
-both-second false b e = absurd (false≢true e)
-
 -- nothing said
 pub nothing-is : (xs : List Messages.Diagnostic) → nothing xs ≡ true → xs ≡ []
 unfolding nothing

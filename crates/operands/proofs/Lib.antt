@@ -1,5 +1,5 @@
 pub mod Checks
 pub mod WidthLaws
 pub mod UseLaws
-pub mod SingleLaws
+pub mod PassLaws
 pub mod VecLaws

@@ -25,6 +25,7 @@ use Rattle.context.specs.Values.{numberOf, operandOf}
 use Rattle.accepted.specs.Cases.{blankOperand}
 use Rattle.accepted.specs.Parts.{valueOr, next-is, value-is, given-is, given-ok}
 use Rattle.accepted.specs.Fields.{counted-is, repeat-none, repeat-first, repeat-is}
+use Rattle.accepted.specs.Singles.{isSingle, both-first, both-second, single-is, single-inside}
 use Rattle.accepted.specs.Remains.{Remains, remains-start, remains-more}
 use Rattle.accepted.specs.Counts.{vec-size}
 use Rattle.lines.specs.declared.Message.{Message}
@@ -34,10 +35,9 @@ use Rattle.promises.specs.Emitted.{Emitted, emitted-none, emitted-then, emitted
 use Rattle.operands.specs.declared.widths.Widths.{Widths}
 use Rattle.operands.specs.Widths.{uniform, agree, widths-say}
 use Rattle.operands.specs.Says.{nothing}
-use Rattle.operands.specs.Singles.{isSingle, passing}
-use Rattle.operands.proofs.Checks.{both-first, both-second, nothing-is}
+use Rattle.operands.specs.Passing.{passing}
+use Rattle.operands.proofs.Checks.{nothing-is}
 use Rattle.operands.proofs.WidthLaws.{width-single}
-use Rattle.operands.proofs.SingleLaws.{single-is, single-inside}
 
 -- n operands from k on
 abbrev pub left : List Text → List ℕ → ℕ → ℕ → List GateOperand

@@ -1,3 +1,3 @@
 pub mod Says
-pub mod Singles
+pub mod Passing
 pub mod Widths

@@ -1,11 +1,12 @@
 // Checks of operands over accepted bytes: check_operand, operand_width, check_use_after_measure.
 mod bounds;
 mod kinds;
-mod singles;
 mod uses;
 mod widths;
 
 use accepted::operands::operand_at;
+use accepted::singles::is_single;
+use accepted::singles::single_at;
 use context::Ends;
 use context::FoundSymbol;
 use context::GateOperand;
@@ -17,8 +18,6 @@ use lines::Message;
 use lines::Note;
 use lines::error;
 use lines::error_with_note;
-use singles::is_single;
-use singles::single_at;
 use span::Span;
 use text::wide;
 use widths::Widths;
@@ -41,7 +40,7 @@ ghost use Rattle.lines.specs.Values.{expectedOf};
 ghost use Rattle.sheet.specs.Sheet.{Indexed, Distinct};
 ghost use Rattle.promises.specs.Emitted.{Emitted};
 ghost use Rattle.operands.specs.Says.{nothing};
-ghost use Rattle.operands.specs.Singles.{passing};
+ghost use Rattle.operands.specs.Passing.{passing};
 ghost use Rattle.operands.specs.Widths.{measureWidths, uniform, agree};
 
 pub fn check_operand(

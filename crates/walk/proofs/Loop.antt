@@ -12,6 +12,7 @@ use Rattle.tree.specs.Decode.{textsOf}
 use Rattle.sema.specs.Symbols.{after}
 use Rattle.sema.specs.Keys.{keysStmt, keysStmts}
 use Rattle.sema.specs.Stmts.{SemaContext, analyzeStmt, analyzeStmts}
+use Rattle.context.specs.declared.Sink.{Sink}
 use Rattle.context.specs.declared.State.{State}
 use Rattle.context.specs.Sink.{writtenOf, emit}
 use Rattle.context.specs.View.{keyBase, numberAt, keysIn, scopesOf, contextOf}
@@ -51,9 +52,14 @@ pub record Going (tree : List ℕ) (left at : ℕ) (st : State) (i₀ s o : List
   pub same-rest : drop tablesEnd s′ ≡ drop tablesEnd s
   pub same-out : length o′ ≡ length o
 
+-- a state whose place and listing are kept beside it
+abbrev pub beside : State → ℕ → Sink → State
+beside s at sink = record { at = at; sink = sink; keys = s .keys; marks = s .marks }
+
 -- one statement, under other names
-pub stepped-as : {tree : List ℕ} (left : ℕ) {st : State} {i s o : List ℕ} {r r′ : State} {i′ s′ o′ i″ s″ o″ : List ℕ} → StmtWent tree left st i s o r i′ s′ o′ → length o′ ≡ length o → i″ ≡ i′ → s″ ≡ s′ → o″ ≡ o′ → r′ ≡ r → StmtWent tree left st i s o r′ i″ s″ o″ × (length o″ ≡ length o)
-stepped-as left v z a b c d = rw (a, b, c, d) (v, z)
+pub stepped-as : {tree : List ℕ} (left : ℕ) {st : State} {i s o : List ℕ} {r : State} {i′ s′ o′ i″ s″ o″ : List ℕ} → StmtWent tree left st i s o r i′ s′ o′ → length o′ ≡ length o → i″ ≡ i′ → s″ ≡ s′ → o″ ≡ o′
+    → (x : State) (at : ℕ) (sink : Sink) → x .keys ≡ r .keys → x .marks ≡ r .marks → at ≡ r .at → sink ≡ r .sink → StmtWent tree left st i s o (beside x at sink) i″ s″ o″ × (length o″ ≡ length o)
+stepped-as left v z a b c x at sink e f g h = rw (a, b, c, e, f, g, h) (v, z)
 
 -- one statement more
 module _ (tree : List ℕ) (left n k : ℕ) (h : IsOk (repeat noStmt moreStmt (stmt (textsOf tree) left) n tree k)) (l : 0 < n) (m : ℕ) (e : m ≡ nextOf (stmt (textsOf tree) left tree k)) where
@@ -126,15 +132,15 @@ module _ {tree : List ℕ} {left at : ℕ} {r₀ : State} {i₀ s o : List ℕ} 
       rest-keys m e = g .keys ∙ ap (λ b. keysStmts b (scopesOf s′ (9 - left)) (keysIn i (r .keys))) (value-is (more-is tree left n (r .at) (g .rest) l m e) noStmt)
 
       -- too many keys
-      pub going-over : r″ .keys ≡ 257 → (st : State) → st .at ≡ at → r₀ .keys ≡ st .keys → BodyWent tree left st i₀ s o r″ i″ s″ o″
-      going-over e st x y =
+      pub going-over : r″ .keys ≡ 257 → (r‴ : State) → r‴ .keys ≡ r″ .keys → (st : State) → st .at ≡ at → r₀ .keys ≡ st .keys → BodyWent tree left st i₀ s o r‴ i″ s″ o″
+      going-over e r‴ k st x y =
           let ls = stmtKeys (stmt (textsOf tree) left tree (r .at)) (scopesOf s′ (9 - left)) (keysIn i (r .keys)) in
           let f : length ls ≤ length (bodyKeys (body (stmt (textsOf tree) left) tree at) (scopesOf s (9 - left)) (keysIn i₀ (r₀ .keys))) =
           rw (rest-keys _ refl, one-keys) (longer-length (stmts-longer _ _ _)) in
           let q = went-over v e _ f Unit in
           rw (x, ← y)
           (record {
-            added = record { counted = q .added .counted; keys = q .added .keys; texts = v .added .texts ∙ g .texts };
+            added = rw k (record { counted = q .added .counted; keys = q .added .keys; texts = v .added .texts ∙ g .texts });
             index-length = v .index-length ∙ g .index-length;
             scratch-length = v .scratch-length ∙ g .same-length;
             scratch-rest = v .scratch-rest ∙ g .same-rest;

@@ -291,7 +291,7 @@ fn body_stmt(
     }
 }
 
-// A body: statements behind their two-byte count.
+// A body: statements behind their two-byte count. In the loop, place and listing are kept beside the state: they are in registers then.
 pub fn analyze_stmts(
     tree: &[u8],
     index: &mut Index,
@@ -306,24 +306,28 @@ pub fn analyze_stmts(
     let at = st.at;
     let mut n = u16_at(tree, at);
     let mut s = st;
-    s.at = at + 2;
+    let mut k = at + 2;
+    let mut sink = s.sink;
     while 0 < n {
-        let k = s.at;
         if is_plain(tree[k]) {
-            let sink = s.sink;
             let keys = s.keys;
             let a = keyed_stmt(tree, index, scratch, out, keys, left, &mut s.marks, k, sink);
-            let said = a.sink;
-            s.at = a.next;
-            s.sink = said;
+            sink = a.sink;
+            k = a.next;
             s.keys = a.keys;
         } else {
+            s.at = k;
+            s.sink = sink;
             s = body_stmt(tree, index, scratch, out, left, s);
+            sink = s.sink;
+            k = s.at;
         }
         if s.keys == OVER {
             return s;
         }
         n -= 1;
     }
+    s.at = k;
+    s.sink = sink;
     s
 }

@@ -3,7 +3,7 @@ use mathlib.Core.Path.{sym, _∙_}
 use native.Mathlib.Omega.{arith}
 use borrow.Author.Needs.{needs}
 use Rattle.accepted.specs.Operands.{operand-below}
-use Rattle.operands.proofs.SingleLaws.{pass-other, pass-loud, pass-quiet}
+use Rattle.operands.proofs.PassLaws.{pass-other, pass-loud, pass-quiet}
 use Rattle.operands.proofs.passes.Statement.{statement}
 use Rattle.operands.proofs.passes.Tie as tie
 

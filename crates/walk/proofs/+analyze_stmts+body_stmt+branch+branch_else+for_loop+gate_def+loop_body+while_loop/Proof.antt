@@ -3,15 +3,16 @@ mod Descent
 mod LoopBodies
 use Rattle.text.proofs.Unlike.{last-from}
 use Prim.Native.Nat.{ℕ}
-use mathlib.Core.Path.{_≡_, refl, sym, _∙_}
+use mathlib.Core.Path.{_≡_, refl, sym, ap, _∙_}
 use mathlib.Core.Logic.{⊎-elim}
 use native.Mathlib.Omega.{arith}
 use lib.ListN.{length}
+use Rattle.context.specs.declared.State.{State}
 use Rattle.promises.specs.Went.{StmtWent}
 use Rattle.promises.specs.WentLaws.{within}
 use Rattle.accepted.specs.Bodies.{body-in, else-in, stmt-in, stmt-below, stmt-left}
 use Rattle.walk.proofs.Plain.{late}
-use Rattle.walk.proofs.Loop.{Going, stepped-as, going-asked, going-start, going-stmt, going-over, going-more, going-end}
+use Rattle.walk.proofs.Loop.{Going, beside, stepped-as, going-asked, going-start, going-stmt, going-over, going-more, going-end}
 use Rattle.walk.proofs.Enclosed.{open-asked, opened-moved}
 use Rattle.walk.proofs.Cases.{gate-below, gate-room, gate-over, gate-went, none-went, some-below, some-over, some-went}
 use Rattle.walk.proofs.Branches.{then-below, then-over, else-below, else-over, if-room, if-went}
@@ -42,10 +43,10 @@ use Rattle.walk.proofs.+analyze_stmts+body_stmt+branch+branch_else+for_
 use Rattle.walk.proofs.+analyze_stmts+body_stmt+branch+branch_else+for_loop+gate_def+loop_body+while_loop.Tie.{close}
 
 abbrev analyze-stmts-Inv-loop : analyze-stmts-lts.InvT-loop
-analyze-stmts-Inv-loop tree index₀ scratch₀ out₀ left at n₀ s₀ index scratch out n s = Going tree left at s₀ index₀ scratch₀ out₀ n s index scratch out
+analyze-stmts-Inv-loop tree index₀ scratch₀ out₀ left at n₀ s₀ k₀ sink₀ index scratch out n s k sink = Going tree left at (beside s₀ k₀ sink₀) index₀ scratch₀ out₀ n (beside s k sink) index scratch out
 
 abbrev analyze-stmts-μ-loop : analyze-stmts-lts.MeasureT-loop
-analyze-stmts-μ-loop tree index₀ scratch₀ out₀ left at n₀ s₀ index scratch out n s = n
+analyze-stmts-μ-loop tree index₀ scratch₀ out₀ left at n₀ s₀ k₀ sink₀ index scratch out n s k sink = n
 
 module _ (t : ℕ) where
   abbrev body-stmt-calls : body-stmt-lts.Claims
@@ -74,33 +75,36 @@ module _ (t : ℕ) where
 
   -- one statement more, of either kind
   analyze-stmts-stepped : (c : analyze-stmts-lts.Joined1 analyze-stmts-calls (analyze-stmts-at t) analyze-stmts.Post analyze-stmts-Inv-loop analyze-stmts-μ-loop)
-      → StmtWent (c .before .before .before .before .before .before .before .before .before .args .tree .now) (c .before .before .before .before .before .before .before .before .before .args .left) (c .before .before .before .before .loop .s) (c .before .before .before .before .loop .index) (c .before .before .before .before .loop .scratch) (c .before .before .before .before .loop .out) (c .if1 .s) (c .if1 .index) (c .if1 .scratch) (c .if1 .out)
+      → StmtWent (c .before .before .before .before .before .before .before .before .before .before .args .tree .now) (c .before .before .before .before .before .before .before .before .before .before .args .left) (beside (c .before .before .before .before .loop .s) (c .before .before .before .before .loop .k) (c .before .before .before .before .loop .sink)) (c .before .before .before .before .loop .index) (c .before .before .before .before .loop .scratch) (c .before .before .before .before .loop .out) (beside (c .if1 .s) (c .if1 .k) (c .if1 .sink)) (c .if1 .index) (c .if1 .scratch) (c .if1 .out)
       × (length (c .if1 .out) ≡ length (c .before .before .before .before .loop .out))
   analyze-stmts-stepped c =
-      ⊎-elim (λ w. stepped-as _ (w .6 .ensures) (w .9 .given) (w .12) (w .13) (w .14) (w .15)) (λ w. stepped-as _ (w .4 .ensures) (w .7 .given) (w .9) (w .10) (w .11) (w .12)) (c .if1 .came)
+      ⊎-elim
+      (λ w. stepped-as _ (w .5 .ensures) (w .8 .given) (w .11) (w .12) (w .13) (c .if1 .s) _ _ (ap (λ (x : State). x .keys) (w .14)) (ap (λ (x : State). x .marks) (w .14)) (w .15) (w .16))
+      (λ w. stepped-as _ (w .4 .ensures) (w .7 .given) (w .10) (w .11) (w .12) (c .if1 .s) _ _ (ap (λ (x : State). x .keys) (w .13)) (ap (λ (x : State). x .marks) (w .13)) (w .14) (w .15))
+      (c .if1 .came)
 
   analyze-stmts-keyed-stmt-requires : analyze-stmts-lts.Need-keyed-stmt-requires analyze-stmts-calls (analyze-stmts-at t) analyze-stmts.Post analyze-stmts-Inv-loop analyze-stmts-μ-loop
-  analyze-stmts-keyed-stmt-requires c κs = (going-asked (c .before .before .before .before .before .before .before .before .before .loop .inv) (c .before .before .before .before .before .before .before .before .loop-test .taken) (c .before .before .before .before .before .before .before .before .before .before .before .before .before .before .pre .1 .shallow), sym (c .before .before .before .before .before .before .is-plain .ensures) ∙ c .before .before .before .before .before .if1 .taken)
+  analyze-stmts-keyed-stmt-requires c κs = (going-asked (c .before .before .before .before .before .before .before .before .loop .inv) (c .before .before .before .before .before .before .before .loop-test .taken) (c .before .before .before .before .before .before .before .before .before .before .before .before .before .before .pre .1 .shallow), sym (c .before .before .before .before .before .is-plain .ensures) ∙ c .before .before .before .before .if1 .taken)
 
   analyze-stmts-body-stmt-requires : analyze-stmts-lts.Need-body-stmt-requires analyze-stmts-calls (analyze-stmts-at t) analyze-stmts.Post analyze-stmts-Inv-loop analyze-stmts-μ-loop
   analyze-stmts-body-stmt-requires c κs =
       let g = c .before .before .before .before .before .before .before .loop .inv in
-      let a = going-asked g (c .before .before .before .before .before .before .loop-test .taken) (c .before .before .before .before .before .before .before .before .before .before .before .before .pre .1 .shallow) in
+      let a = going-asked g (c .before .before .before .before .before .before .loop-test .taken) (c .before .before .before .before .before .before .before .before .before .before .before .before .before .pre .1 .shallow) in
       (omega (arith, g .past, stmt-in _ _ _ _ (a .accepted)), (a, sym (c .before .before .before .before .is-plain .ensures) ∙ c .before .before .before .if1 .left))
 
   analyze-stmts-closed : {M : Type 1} → analyze-stmts-lts.Closed analyze-stmts-calls (analyze-stmts-at t) analyze-stmts.Post M
   analyze-stmts-closed =
       analyze-stmts-lts.spec analyze-stmts-calls (analyze-stmts-at t) analyze-stmts.Post analyze-stmts-Inv-loop analyze-stmts-μ-loop
       (λ c κs. body-in _ _ _ (c .before .before .before .pre .1 .accepted))  -- u16-at-requires
-      (λ c. let p = c .before .before .before .before .pre .1 in omega (arith, body-in _ _ _ (p .accepted), p .walkable .small))  -- add-s
-      (λ c. going-start (c .before .before .before .before .pre .1) _ (c .u16-at .ensures .0) _ refl refl refl refl)  -- loop-holds
+      (λ c. let p = c .before .before .before .before .pre .1 in omega (arith, body-in _ _ _ (p .accepted), p .walkable .small))  -- add-k
+      (λ c. going-start (c .before .before .before .before .before .pre .1) _ (c .before .u16-at .ensures .0) _ refl refl refl refl)  -- loop-holds
       (λ c. stmt-in _ _ _ _ (going-stmt (c .before .before .loop .inv) (c .before .loop-test .taken)))  -- shared-slice-read-is-plain
       (λ c κs. search needs)  -- is-plain-requires
       analyze-stmts-keyed-stmt-requires
       analyze-stmts-body-stmt-requires
       (λ c. analyze-stmts-stepped (c .before) .0 .scratch-length ∙ c .before .before .before .before .before .loop .inv .same-length)  -- same-length
       (λ c. analyze-stmts-stepped (c .before) .1 ∙ c .before .before .before .before .before .loop .inv .same-out)  -- same-length-2
-      (λ c. going-over (c .before .before .before .before .before .loop .inv) (c .before .before .before .before .loop-test .taken) (analyze-stmts-stepped (c .before) .0) (c .if2 .taken) _ refl refl)  -- returns
+      (λ c. going-over (c .before .before .before .before .before .loop .inv) (c .before .before .before .before .loop-test .taken) (analyze-stmts-stepped (c .before) .0) (c .if2 .taken) _ refl _ refl refl)  -- returns
       (λ c. search needs) (λ c. search needs)  -- sub-n, loop-less
       (λ c. let v = analyze-stmts-stepped (c .before) in going-more (c .before .before .before .before .before .loop .inv) (c .before .before .before .before .loop-test .taken) (v .0) (c .if2 .left) (v .1))  -- loop-again
       (λ c. c .before .loop .inv .same-length)  -- same-length-3

@@ -1,8 +1,8 @@
--- `operands::singles::is_single` meets its contract. Assumes nothing.
+-- `accepted::singles::is_single` meets its contract. Assumes nothing.
 use native.Mathlib.Omega.{arith}
-use Rattle.operands.proofs.SingleLaws.{without-index, with-index, index-in, slice-in}
-use Rattle.operands.proofs.singles.is_single.Statement.{statement}
-use Rattle.operands.proofs.singles.is_single.Tie as tie
+use Rattle.accepted.specs.Singles.{without-index, with-index, index-in, slice-in}
+use Rattle.accepted.proofs.singles.is_single.Statement.{statement}
+use Rattle.accepted.proofs.singles.is_single.Tie as tie
 
 pub is-single-spec : {M : Type 1} → statement M
 is-single-spec =

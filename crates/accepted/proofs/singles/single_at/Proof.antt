@@ -1,8 +1,9 @@
--- `operands::singles::single_at` meets its contract. Assumes nothing.
+-- `accepted::singles::single_at` meets its contract. Assumes nothing.
 use native.Mathlib.Omega.{arith}
-use Rattle.operands.proofs.SingleLaws.{single-inside, single-read}
-use Rattle.operands.proofs.singles.single_at.Statement.{statement}
-use Rattle.operands.proofs.singles.single_at.Tie as tie
+use Rattle.accepted.specs.Singles.{single-inside}
+use Rattle.accepted.proofs.ReadOperands.{single-read}
+use Rattle.accepted.proofs.singles.single_at.Statement.{statement}
+use Rattle.accepted.proofs.singles.single_at.Tie as tie
 
 pub single-at-spec : {M : Type 1} → statement M
 single-at-spec =
