@@ -10,19 +10,19 @@ use crate::numbers::{span_at, u16_at, u64_at};
 use crate::tree_reader::{TreeReader, byte, number, skip};
 use context::{Ends, GateOperand, Number};
 
-#[derive(Drop)]
+#[derive(Clone, Copy)]
 pub struct ReadNumber {
     pub number: Number,
     pub next: usize,
 }
 
-#[derive(Drop)]
+#[derive(Clone, Copy)]
 pub struct ReadEnds {
     pub ends: Ends,
     pub next: usize,
 }
 
-#[derive(Drop)]
+#[derive(Clone, Copy)]
 pub struct ReadOperand {
     pub operand: GateOperand,
     pub next: usize,

@@ -5,7 +5,7 @@ ghost use Rattle.context.specs.View.{number_at, span_at};
 use crate::numbers::{byte_at, span_at, u16_at, u64_at};
 use span::Span;
 
-#[derive(Drop)]
+#[derive(Clone, Copy)]
 pub struct TreeReader<'a> {
     pub tree: &'a [u8],
     pub at: usize,

@@ -1,1 +1,3 @@
 // The answer of a call as definitions: see specs/.
+#![tactic(auto)]
+

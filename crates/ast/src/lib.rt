@@ -1,6 +1,7 @@
 // The plain enums of ast.rs, cases in the order of the source: a case's byte in the tree file is its place in this order.
+#![tactic(auto)]
 
-#[derive(Drop)]
+#[derive(Clone, Copy)]
 pub enum ClassicalType {
     Int,
     UInt,
@@ -9,21 +10,21 @@ pub enum ClassicalType {
     Bool,
 }
 
-#[derive(Drop)]
+#[derive(Clone, Copy)]
 pub enum ClassicalQualifier {
     Const,
     Input,
     Output,
 }
 
-#[derive(Drop)]
+#[derive(Clone, Copy)]
 pub enum AssignOp {
     Assign,
     AddAssign,
     SubAssign,
 }
 
-#[derive(Drop)]
+#[derive(Clone, Copy)]
 pub enum BinOp {
     Add,
     Sub,
@@ -32,7 +33,7 @@ pub enum BinOp {
     Pow,
 }
 
-#[derive(Drop)]
+#[derive(Clone, Copy)]
 pub enum CompareOp {
     Eq,
     Ne,
@@ -42,7 +43,7 @@ pub enum CompareOp {
     Ge,
 }
 
-#[derive(Drop)]
+#[derive(Clone, Copy)]
 pub enum ConstKind {
     Pi,
     Tau,

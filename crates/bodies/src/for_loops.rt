@@ -21,7 +21,7 @@ use scopes::type_at;
 use span::Span;
 
 // The parts of a `for`.
-#[derive(Drop)]
+#[derive(Clone, Copy)]
 pub struct ForParts {
     pub name: usize,
     pub ty: ClassicalType,

@@ -21,7 +21,7 @@ use span::Span;
 use text::wide;
 
 // The parts of a gate definition.
-#[derive(Drop)]
+#[derive(Clone, Copy)]
 pub struct GateParts {
     pub name: usize,
     pub qubits_at: usize,

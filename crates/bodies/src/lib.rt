@@ -1,4 +1,6 @@
 // Before a body: what is said, and the scope that is entered. The marks, whatever they are, stay.
+#![tactic(auto)]
+
 mod for_loops;
 mod gate_defs;
 

@@ -1,11 +1,13 @@
 // Reads the trees of a file of cases from standard input, each behind its length in four bytes.
+#![tactic(auto)]
+
 ghost use Rattle.std.specs.Prelude.{◌<◌, ◌≤◌, length};
 ghost use Rattle.cases.specs.Case.{size_of};
 
 use libc::STDIN_FILENO;
 use text::wide;
 
-#[derive(Drop)]
+#[derive(Clone, Copy)]
 pub enum Case {
     Tree(usize),
     End,

@@ -1,4 +1,6 @@
 // The checking list of a tree.
+#![tactic(auto)]
+
 ghost use Rattle.std.specs.Prelude.{◌≡◌, ℕ, ◌+◌, ◌≤◌, length};
 ghost use Rattle.tree.specs.Ans.{IsOk, next_of};
 ghost use Rattle.tree.specs.Texts.{texts};
@@ -23,7 +25,7 @@ use verdict::Answer;
 const STAGE: usize = 8192;
 
 // What a walk over a whole tree gives: the listing, and how many keys there are, or OVER.
-#[derive(Drop)]
+#[derive(Clone, Copy)]
 struct Outcome {
     sink: Sink,
     keys: usize,

@@ -1,4 +1,6 @@
 // Constant values and control counts over accepted bytes: the callers have seen the whole file accepted.
+#![tactic(auto)]
+
 ghost use Rattle.std.specs.Prelude.{◌≡◌, neg_ℤ};
 ghost use Rattle.int128.specs.Whole.{value_of};
 ghost use Rattle.tree.specs.Ans.{IsOk};
@@ -16,20 +18,20 @@ use accepted::parts::skip_modifier;
 use int128::{Checked, Int128, Word};
 use text::wide;
 
-#[derive(Drop)]
+#[derive(Clone, Copy)]
 pub struct Evaluated {
     pub value: Checked,
     pub next: usize,
 }
 
 // An Option of a control total.
-#[derive(Drop)]
+#[derive(Clone, Copy)]
 pub enum Total {
     Some(u64),
     None,
 }
 
-#[derive(Drop)]
+#[derive(Clone, Copy)]
 pub struct Controls {
     pub total: Total,
     pub next: usize,

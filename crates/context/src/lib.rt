@@ -1,4 +1,6 @@
 // The values that the walk over a tree passes around, as the code holds them.
+#![tactic(auto)]
+
 ghost use Rattle.std.specs.Prelude.{◌≡◌};
 ghost use Rattle.sema.specs.Messages.{a_bit};
 ghost use Rattle.sema.specs.Operands.{fits};
@@ -12,20 +14,20 @@ use types::Typed;
 pub type Index = [u64; 768];
 
 // An Option of a number.
-#[derive(Drop)]
+#[derive(Clone, Copy)]
 pub enum Number {
     Some(u64),
     None,
 }
 
 // An Option of the two ends of a slice.
-#[derive(Drop)]
+#[derive(Clone, Copy)]
 pub enum Ends {
     Some(u64, u64),
     None,
 }
 
-#[derive(Drop)]
+#[derive(Clone, Copy)]
 pub struct GateOperand {
     pub name: usize,
     pub index: Number,
@@ -33,7 +35,7 @@ pub struct GateOperand {
     pub span: Span,
 }
 
-#[derive(Drop)]
+#[derive(Clone, Copy)]
 pub enum SymbolKind {
     Qubit,
     Bit,
@@ -57,48 +59,48 @@ pub fn is_bit(kind: SymbolKind) -> bool
     }
 }
 
-#[derive(Drop)]
+#[derive(Clone, Copy)]
 pub struct Symbol {
     pub kind: SymbolKind,
     pub size: Number,
     pub decl_span: Span,
 }
 
-#[derive(Drop)]
+#[derive(Clone, Copy)]
 pub enum FoundSymbol {
     Some(Symbol),
     None,
 }
 
-#[derive(Drop)]
+#[derive(Clone, Copy)]
 pub struct GateSig {
     pub param_count: usize,
     pub qubit_count: usize,
     pub decl_span: Span,
 }
 
-#[derive(Drop)]
+#[derive(Clone, Copy)]
 pub enum FoundGate {
     Some(GateSig),
     None,
 }
 
 // The types of the parameters are read one by one.
-#[derive(Drop)]
+#[derive(Clone, Copy)]
 pub struct FunctionSig {
     pub param_count: usize,
     pub return_type: ClassicalType,
     pub decl_span: Span,
 }
 
-#[derive(Drop)]
+#[derive(Clone, Copy)]
 pub enum FoundFunction {
     Some(FunctionSig),
     None,
 }
 
 // How far the listing is: its length, and the diagnostics in it. It is passed by value everywhere, so it is 8 bytes.
-#[derive(Drop)]
+#[derive(Clone, Copy)]
 pub struct Sink {
     pub n: u32,
     pub errors: u16,
@@ -106,7 +108,7 @@ pub struct Sink {
 }
 
 // What an expression is found to be, the place past it, and the listing after what is said of it.
-#[derive(Drop)]
+#[derive(Clone, Copy)]
 pub struct Typing {
     pub typed: Typed,
     pub next: usize,
@@ -114,14 +116,14 @@ pub struct Typing {
 }
 
 // The place past what was checked, and the listing after what is said of it.
-#[derive(Drop)]
+#[derive(Clone, Copy)]
 pub struct After {
     pub next: usize,
     pub sink: Sink,
 }
 
 // The walk on its way: the place in the tree, the listing, how many keys there are in the index, the marks.
-#[derive(Drop)]
+#[derive(Clone, Copy)]
 pub struct State {
     pub at: usize,
     pub sink: Sink,

@@ -1,4 +1,6 @@
 // Declarations, assignments and function definitions over accepted bytes: cases of the Rust's analyze_stmt.
+#![tactic(auto)]
+
 mod parts;
 mod reports;
 

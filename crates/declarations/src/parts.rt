@@ -17,7 +17,7 @@ use scopes::type_at;
 use span::Span;
 
 // A function definition: `body` is the place of its expression, `end` the place past the statement.
-#[derive(Drop)]
+#[derive(Clone, Copy)]
 pub struct Function {
     pub name: usize,
     pub return_type: ClassicalType,

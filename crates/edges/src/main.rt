@@ -1,4 +1,6 @@
 // Runs the edges of the 128-bit numbers and prints each result in decimal, or none.
+#![tactic(auto)]
+
 use int128::{Checked, Int128, Words};
 use libc::STDOUT_FILENO;
 
@@ -20,7 +22,7 @@ fn min() -> Int128 {
 }
 
 // The last decimal digit of a number that is not below zero, and the number without it.
-#[derive(Drop)]
+#[derive(Clone, Copy)]
 pub struct Digit {
     pub value: u8,
     pub rest: Int128,

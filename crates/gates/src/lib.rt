@@ -1,9 +1,11 @@
 // The standard gates: how many parameters and qubits each takes.
+#![tactic(auto)]
+
 ghost use Rattle.std.specs.Prelude.{◌≡◌, map, ◌≤◌, ◌<◌, length};
 ghost use Rattle.gates.specs.Gates.{lower, signature_of};
 ghost use Rattle.gates.specs.Keys.{key_of, index_of};
 
-#[derive(Drop)]
+#[derive(Clone, Copy)]
 pub enum Signature {
     Standard { params: usize, qubits: usize },
     None,

@@ -1,4 +1,6 @@
 // The index: the places of the texts of an accepted tree in its first 256 numbers. The others are for the keys.
+#![tactic(auto)]
+
 ghost use Rattle.std.specs.Prelude.{◌≡◌, length};
 ghost use Rattle.tree.specs.Ans.{IsOk, next_of};
 ghost use Rattle.tree.specs.Texts.{texts};

@@ -1,40 +1,42 @@
 // Whole numbers of 128 bits (i128 in the Rust): a sign, and a magnitude of two words.
+#![tactic(auto)]
+
 ghost use Rattle.std.specs.Prelude.{◌≡◌, false, not, ◌≤◌, ◌<◌, ◌+◌, ◌-◌, ◌*◌, ◌/◌, ◌%◌, ◌^◌, neg_ℤ, ◌+ℤ◌, ◌-ℤ◌, ◌*ℤ◌, eqb, ltb};
 ghost use Rattle.std.specs.Bool.{xor};
 ghost use Rattle.int128.specs.Whole.{magnitude, magnitude_of, signed, value_of, int128, checked, divided, powered, positive, word_of};
 
-#[derive(Drop)]
+#[derive(Clone, Copy)]
 pub struct Int128 {
     pub neg: bool,
     pub words: Words,
 }
 
-#[derive(Drop)]
+#[derive(Clone, Copy)]
 pub enum Checked {
     Value(Int128),
     None,
 }
 
-#[derive(Drop)]
+#[derive(Clone, Copy)]
 pub enum Word {
     Fit(u64),
     Unfit,
 }
 
 // A magnitude below 2^128.
-#[derive(Drop)]
+#[derive(Clone, Copy)]
 pub struct Words {
     pub hi: u64,
     pub lo: u64,
 }
 
-#[derive(Drop)]
+#[derive(Clone, Copy)]
 pub enum Magnitude {
     Fits(Words),
     Over,
 }
 
-#[derive(Drop)]
+#[derive(Clone, Copy)]
 pub struct Division {
     pub quotient: Words,
     pub remainder: Words,

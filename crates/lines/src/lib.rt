@@ -1,4 +1,6 @@
 // One diagnostic of the listing: its line, and its note's.
+#![tactic(auto)]
+
 pub mod pieces;
 mod plans;
 mod tables;
@@ -19,21 +21,21 @@ use ast::ClassicalType;
 use context::{GateOperand, Index, Sink, SymbolKind};
 use span::Span;
 
-#[derive(Drop)]
+#[derive(Clone, Copy)]
 pub enum Severity {
     Error,
     Warning,
 }
 
 // What an operand is expected to be.
-#[derive(Drop)]
+#[derive(Clone, Copy)]
 pub enum Expected {
     Qubit,
     Bit,
 }
 
 // Where a type is required.
-#[derive(Drop)]
+#[derive(Clone, Copy)]
 pub enum Place {
     IfCondition,
     WhileCondition,
@@ -43,7 +45,7 @@ pub enum Place {
 }
 
 // The messages of the analysis, their fields in the order of the wording's definition.
-#[derive(Drop)]
+#[derive(Clone, Copy)]
 pub enum Message {
     AlreadyDeclared(usize),
     NotDeclared(usize),
@@ -89,7 +91,7 @@ pub enum Message {
     ComparisonTypes,
 }
 
-#[derive(Drop)]
+#[derive(Clone, Copy)]
 pub enum Note {
     FirstDeclared(usize),
     DeclaredAs(usize, SymbolKind),
@@ -103,13 +105,13 @@ pub enum Note {
 }
 
 // An Option of a note and its span.
-#[derive(Drop)]
+#[derive(Clone, Copy)]
 pub enum Secondary {
     Some(Note, Span),
     None,
 }
 
-#[derive(Drop)]
+#[derive(Clone, Copy)]
 pub struct Diagnostic {
     pub severity: Severity,
     pub message: Message,
@@ -151,7 +153,7 @@ pub fn warning(message: Message, span: Span) -> Diagnostic
 }
 
 // How a text is made: the kind says its parts (`tables::row_of`); the words are numbers of phrases.
-#[derive(Drop)]
+#[derive(Clone, Copy)]
 struct Plan {
     kind: usize,
     name: usize,

@@ -1,4 +1,6 @@
 // Reads a tree on standard input and prints its listing, or refused, number and place.
+#![tactic(auto)]
+
 use libc::STDIN_FILENO;
 
 // One byte more than a tree may have is enough to be refused.

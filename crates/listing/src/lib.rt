@@ -1,1 +1,3 @@
 // The listing as definitions: see specs/.
+#![tactic(auto)]
+

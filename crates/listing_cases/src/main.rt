@@ -1,4 +1,6 @@
 // Lists the trees on standard input, each behind its length in four bytes, one after the other.
+#![tactic(auto)]
+
 use cases::Case;
 
 // More cases than the input has.

@@ -60,7 +60,7 @@ pub fn check_kind(
 }
 
 // What is wrong with an index: its symbol has no size, or the index (first) is not below the size.
-#[derive(Drop)]
+#[derive(Clone, Copy)]
 enum IndexFault {
     None,
     WithoutSize,
@@ -68,7 +68,7 @@ enum IndexFault {
 }
 
 // The same of a slice: its ends and the size.
-#[derive(Drop)]
+#[derive(Clone, Copy)]
 enum SliceFault {
     None,
     WithoutSize,

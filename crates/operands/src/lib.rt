@@ -1,4 +1,6 @@
 // Checks of operands over accepted bytes: check_operand, operand_width, check_use_after_measure.
+#![tactic(auto)]
+
 mod bounds;
 mod kinds;
 mod uses;

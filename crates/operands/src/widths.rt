@@ -8,7 +8,7 @@ ghost use Rattle.operands.specs.Widths.{agree};
 use context::{Ends, Number};
 
 // The widths above 1 that were met: none, all equal to one, or two that differ.
-#[derive(Drop)]
+#[derive(Clone, Copy)]
 pub enum Widths {
     None,
     All(u64),

@@ -32,7 +32,7 @@ use span::Span;
 use text::wide;
 
 // What a gate call is made of: its name, the numbers of its parameters, arguments and controls, the places of the Vecs, its end and span.
-#[derive(Drop)]
+#[derive(Clone, Copy)]
 pub struct Call {
     pub name: usize,
     pub params: usize,

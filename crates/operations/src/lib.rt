@@ -1,4 +1,6 @@
 // Includes, gate calls, measurements, resets, barriers and delays over accepted bytes: cases of the Rust's analyze_stmt.
+#![tactic(auto)]
+
 mod calls;
 mod measures;
 

@@ -1,4 +1,6 @@
 // Prints an answer of the checker: the listing, or refused, number and place.
+#![tactic(auto)]
+
 ghost use Rattle.std.specs.Prelude.{◌≡◌, ℕ, ◌≤◌, length};
 ghost use Rattle.answer.specs.Answer.{accepted};
 ghost use Rattle.verdict.specs.Verdict.{answer_of};

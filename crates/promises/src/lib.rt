@@ -1,1 +1,3 @@
 // What the functions of the walk promise: definitions and laws only.
+#![tactic(auto)]
+

@@ -1,4 +1,6 @@
 // The checker for C: include/puntsalak.h.
+#![tactic(auto)]
+
 ghost use Rattle.std.specs.Prelude.{◌≡◌, ℕ, length};
 ghost use Rattle.answer.specs.Answer.{accepted, answer as answerTo, listing_after, scratch_after};
 ghost use Rattle.claims.specs.Claim.{Claim};

@@ -1,4 +1,6 @@
 // Validates the bytes of a tree file: what the decoder answers, without the tree.
+#![tactic(auto)]
+
 mod bodies;
 
 ghost use Rattle.std.specs.Prelude.{◌≡◌};
@@ -9,7 +11,7 @@ ghost use Rattle.reader.specs.Answers.{validated};
 use reading::answers::{Read, ReadNumber};
 use reading::{numbers, texts};
 
-#[derive(Drop)]
+#[derive(Clone, Copy)]
 pub enum Validated {
     Accepted,
     Refused(u8, usize),

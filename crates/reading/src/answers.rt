@@ -6,33 +6,33 @@ use crate::numbers::size;
 use span::Span;
 
 // Of a list or a tree the place alone: there is nothing to hold it.
-#[derive(Drop)]
+#[derive(Clone, Copy)]
 pub enum Read {
     At(usize),
     Refused(u8, usize),
 }
 
 // A case byte, the count of a Vec, the length of a text or its kind.
-#[derive(Drop)]
+#[derive(Clone, Copy)]
 pub enum ReadByte {
     At(u8, usize),
     Refused(u8, usize),
 }
 
-#[derive(Drop)]
+#[derive(Clone, Copy)]
 pub enum ReadNumber {
     At(u64, usize),
     Refused(u8, usize),
 }
 
 // The number of a text.
-#[derive(Drop)]
+#[derive(Clone, Copy)]
 pub enum ReadText {
     At(usize, usize),
     Refused(u8, usize),
 }
 
-#[derive(Drop)]
+#[derive(Clone, Copy)]
 pub enum ReadSpan {
     At(Span, usize),
     Refused(u8, usize),

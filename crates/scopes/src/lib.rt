@@ -1,5 +1,7 @@
 // What statements do to the scopes in the scratch: declarations, and the scopes that bodies begin with. The callers have seen the whole
 // file accepted, so that names are numbers below 256.
+#![tactic(auto)]
+
 ghost use Rattle.std.specs.Prelude.{◌≡◌, [], ◌∷◌, map, ℕ, suc, ◌≤◌, ◌<◌, length, get_or};
 ghost use Rattle.std.proofs.Math.Option.{none};
 ghost use Rattle.tree.specs.Ans.{IsOk};
@@ -24,7 +26,7 @@ use span::Span;
 use text::wide;
 
 // What a declaration declares, and the place past it.
-#[derive(Drop)]
+#[derive(Clone, Copy)]
 pub struct Declaration {
     pub name: usize,
     pub symbol: Symbol,

@@ -1,5 +1,7 @@
 // The mark sheet: for each key of the index the place of the measure statement that marked it, or 0.
 // The walk over a tree calls these functions. The index has the keys that the walk has met; behind them the sheet is blank.
+#![tactic(auto)]
+
 pub mod new_keys;
 
 ghost use Rattle.std.specs.Prelude.{◌≡◌, List, cond, ◌&&◌, ℕ, ◌+◌, ◌*◌, ◌≤◌, ◌<◌, length, eqb};
@@ -14,7 +16,7 @@ ghost use Rattle.sheet.specs.Behind.{Blank};
 use context::{Ends, GateOperand, Index, Number};
 
 // The smallest index of a slice that a mark covers, and the mark's place.
-#[derive(Drop)]
+#[derive(Clone, Copy)]
 pub enum Covered {
     At(u64, u16),
     None,

@@ -1,5 +1,7 @@
 // The symbols, gates and functions that a walk has met, as tables in the lent scratch. The layout is that of the context's views. The
 // walk lends a scratch of at least 65,536 bytes, names texts by numbers below 256, and has at most 9 scopes.
+#![tactic(auto)]
+
 ghost use Rattle.std.specs.Prelude.{◌≡◌, ◌+◌, ◌-◌, ◌*◌, ◌≤◌, ◌<◌, [], length, get_or, set};
 ghost use Rattle.std.proofs.lemmas.List.Edits.{sets};
 ghost use Rattle.types.specs.Types.{number_of};

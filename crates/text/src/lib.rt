@@ -1,4 +1,6 @@
 // Parts of a lent text, and bytes as numbers.
+#![tactic(auto)]
+
 ghost use Rattle.std.specs.Prelude.{◌≡◌, min, ◌<◌};
 ghost use Rattle.text.specs.Text.{part};
 

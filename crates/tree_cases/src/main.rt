@@ -1,4 +1,6 @@
 // Validates the trees on standard input, each behind its length in four bytes, and prints a line for each.
+#![tactic(auto)]
+
 use cases::Case;
 use libc::STDOUT_FILENO;
 use reader::Validated;

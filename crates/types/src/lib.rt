@@ -1,11 +1,13 @@
 // The rules on classical types.
+#![tactic(auto)]
+
 ghost use Rattle.std.specs.Prelude.{◌≡◌, ◌<◌};
 ghost use Rattle.types.specs.Types.{number_of, assignable_to, numeric, rank_of, arithmetic_of};
 
 use ast::ClassicalType;
 
 // What an arithmetic expression has: a type, or none.
-#[derive(Drop)]
+#[derive(Clone, Copy)]
 pub enum Typed {
     Type(ClassicalType),
     None,

@@ -1,4 +1,6 @@
 // Types of expressions over accepted bytes: check_expr, require_type, check_modifiers.
+#![tactic(auto)]
+
 mod calls;
 mod cases;
 mod demands;
@@ -28,7 +30,7 @@ use text::wide;
 use types::Typed;
 
 // The function of a call: the call's type, the number of parameters, and the listing after what is said of the function.
-#[derive(Drop)]
+#[derive(Clone, Copy)]
 struct Callee {
     typed: Typed,
     params: usize,
@@ -36,7 +38,7 @@ struct Callee {
 }
 
 // What is asked of an expression's type: to fit a type at a place, to be numeric, or to fit the parameter of that number and function.
-#[derive(Drop)]
+#[derive(Clone, Copy)]
 enum Wanted {
     Assignable(ClassicalType, Place),
     Numeric(Message),

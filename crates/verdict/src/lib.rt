@@ -1,4 +1,6 @@
 // The answer to a program by what its first walk learnt, and the listing from lines that were kept.
+#![tactic(auto)]
+
 ghost use Rattle.std.specs.Prelude.{◌≡◌, true, ◌+◌, ◌≤◌, length, take};
 ghost use Rattle.std.proofs.lemmas.List.Edits.{sets};
 ghost use Rattle.ast.specs.Tree.{Program};
@@ -9,7 +11,7 @@ ghost use Rattle.verdict.specs.Verdict.{answer_of, is_accepted, head_of, Learnt,
 
 use context::Sink;
 
-#[derive(Drop)]
+#[derive(Clone, Copy)]
 pub enum Answer {
     Accepted(usize, usize, usize),
     Refused(u8, usize),

@@ -1,6 +1,7 @@
 // The analysis of statements over accepted bytes: the Rust's analyze_stmt (plain_stmt, body_stmt) and analyze_stmts. The state is taken and
 // given by value, so a caller keeps the marks of the entry of a body; a statement without a body is lent the marks. Keys are numbered as
 // measure statements are met (keyed_stmt); once there are too many, the walk stops.
+#![tactic(auto)]
 
 ghost use Rattle.std.specs.Prelude.{◌≡◌, true, false, ℕ, ◌-◌, ◌≤◌, length, get_or};
 ghost use Rattle.tree.specs.Ans.{IsOk};
@@ -19,7 +20,7 @@ use sheet::new_keys::OVER;
 
 // What a statement without statements in it leaves beside the marks: the place past it, the listing, how many keys there are. Where they
 // are too many, its own place.
-#[derive(Drop)]
+#[derive(Clone, Copy)]
 struct Step {
     next: usize,
     sink: Sink,
