@@ -40,12 +40,12 @@ module _ (t : ℕ) where
       (λ c. search dividing)  -- returns
       (λ c κs. search dividing)  -- sub-words-requires
       (λ c. search dividing)  -- returns-2
-      (λ c κs. c.if2.false)  -- double-requires
+      (λ c κs. c.if-b-ge-HALF.false)  -- double-requires
       (λ c κs. search dividing)  -- divide-requires
       divide-halved-requires
       (λ c. search dividing)  -- returns-3
 
-pub +divide-spec : {M : Type 1} → statement M
-+divide-spec =
+pub +divide_spec : {M : Type 1} → statement M
++divide_spec =
     close μ-divide
     (λ t. divide-closed t)

@@ -41,7 +41,7 @@ module _ (t : ℕ) where
       (λ c κs. tt)  -- mul-words-requires-2
       (λ c. search powering)  -- returns-6
 
-pub +pow-words-spec : {M : Type 1} → statement M
-+pow-words-spec =
+pub +pow_words_spec : {M : Type 1} → statement M
++pow_words_spec =
     close μ-pow-words
     (λ t. pow-words-closed t)

@@ -4,8 +4,8 @@ use borrow.Author.Rules.{rules}
 use Rattle.int128.proofs.add_words.Statement.{statement}
 use Rattle.int128.proofs.add_words.Tie as tie
 
-pub add-words-spec : {M : Type 1} → statement M
-add-words-spec =
+pub add_words_spec : {M : Type 1} → statement M
+add_words_spec =
     tie.close (tie.spec
     (λ c. search rules)  -- sub-if1
     (λ c. search summing)  -- returns

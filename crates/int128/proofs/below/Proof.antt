@@ -3,5 +3,5 @@ use Rattle.int128.proofs.Halves.{order}
 use Rattle.int128.proofs.below.Statement.{statement}
 use Rattle.int128.proofs.below.Tie as tie
 
-pub below-spec : {M : Type 1} → statement M
-below-spec = tie.close (tie.spec (λ c. search order) (λ c. search order) (λ c. search order) (λ c. search order))
+pub below_spec : {M : Type 1} → statement M
+below_spec = tie.close (tie.spec (λ c. search order) (λ c. search order) (λ c. search order) (λ c. search order))

@@ -4,8 +4,8 @@ use borrow.Author.Rules.{rules}
 use Rattle.int128.proofs.differ.Statement.{statement}
 use Rattle.int128.proofs.differ.Tie as tie
 
-pub differ-spec : {M : Type 1} → statement M
-differ-spec =
+pub differ_spec : {M : Type 1} → statement M
+differ_spec =
     tie.close (tie.spec
     (λ c κs. search rules)  -- below-requires
     (λ c κs. search differing)  -- sub-words-requires

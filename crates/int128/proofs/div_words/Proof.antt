@@ -4,8 +4,8 @@ use borrow.Author.Rules.{rules}
 use Rattle.int128.proofs.div_words.Statement.{statement}
 use Rattle.int128.proofs.div_words.Tie as tie
 
-pub div-words-spec : {M : Type 1} → statement M
-div-words-spec =
+pub div_words_spec : {M : Type 1} → statement M
+div_words_spec =
     tie.close (tie.spec
     (λ c. search plain-some)  -- div-t6
     (λ c. search plain-div)  -- returns

@@ -4,8 +4,8 @@ use borrow.Author.Rules.{rules}
 use Rattle.int128.proofs.halved.Statement.{statement}
 use Rattle.int128.proofs.halved.Tie as tie
 
-pub halved-spec : {M : Type 1} → statement M
-halved-spec =
+pub halved_spec : {M : Type 1} → statement M
+halved_spec =
     tie.close (tie.spec
     (λ c κs. search rules)  -- double-requires
     (λ c κs. search rules)  -- below-requires

@@ -3,8 +3,8 @@ use Rattle.int128.proofs.Halves.{zeros}
 use Rattle.int128.proofs.is_zero.Statement.{statement}
 use Rattle.int128.proofs.is_zero.Tie as tie
 
-pub is-zero-spec : {M : Type 1} → statement M
-is-zero-spec =
+pub is_zero_spec : {M : Type 1} → statement M
+is_zero_spec =
     tie.close (tie.spec
     (λ c. search zeros)  -- returns
     (λ c. search zeros))  -- returns-2

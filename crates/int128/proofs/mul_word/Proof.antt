@@ -4,8 +4,8 @@ use borrow.Author.Rules.{rules}
 use Rattle.int128.proofs.mul_word.Statement.{statement}
 use Rattle.int128.proofs.mul_word.Tie as tie
 
-pub mul-word-spec : {M : Type 1} → statement M
-mul-word-spec =
+pub mul_word_spec : {M : Type 1} → statement M
+mul_word_spec =
     tie.close (tie.spec
     (λ c κs. search rules)  -- product-requires
     (λ c κs. search rules)  -- product-requires-2

@@ -4,8 +4,8 @@ use borrow.Author.Rules.{rules}
 use Rattle.int128.proofs.mul_words.Statement.{statement}
 use Rattle.int128.proofs.mul_words.Tie as tie
 
-pub mul-words-spec : {M : Type 1} → statement M
-mul-words-spec =
+pub mul_words_spec : {M : Type 1} → statement M
+mul_words_spec =
     tie.close (tie.spec
     (λ c. search sides)  -- returns
     (λ c κs. search rules)  -- mul-word-requires

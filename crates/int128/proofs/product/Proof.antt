@@ -4,8 +4,8 @@ use borrow.Author.Rules.{rules}
 use Rattle.int128.proofs.product.Statement.{statement}
 use Rattle.int128.proofs.product.Tie as tie
 
-pub product-spec : {M : Type 1} → statement M
-product-spec =
+pub product_spec : {M : Type 1} → statement M
+product_spec =
     tie.close (tie.spec
     (λ c. search halves)  -- mul-w0:
     (λ c. search halves)  -- mul-t

@@ -4,8 +4,8 @@ use borrow.Author.Rules.{rules}
 use Rattle.int128.proofs.sub_words.Statement.{statement}
 use Rattle.int128.proofs.sub_words.Tie as tie
 
-pub sub-words-spec : {M : Type 1} → statement M
-sub-words-spec =
+pub sub_words_spec : {M : Type 1} → statement M
+sub_words_spec =
     tie.close (tie.spec
     (λ c. search lessening)  -- sub-t4
     (λ c. search lessening)  -- sub-t5

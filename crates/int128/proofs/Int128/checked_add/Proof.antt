@@ -4,8 +4,8 @@ use borrow.Author.Rules.{rules}
 use Rattle.int128.proofs.Int128.checked_add.Statement.{statement}
 use Rattle.int128.proofs.Int128.checked_add.Tie as tie
 
-pub checked-add-spec : {M : Type 1} → statement M
-checked-add-spec =
+pub checked_add_spec : {M : Type 1} → statement M
+checked_add_spec =
     tie.close (tie.spec
     (λ c κs. search rules)  -- unlike-requires
     (λ c κs. search rules)  -- differ-requires

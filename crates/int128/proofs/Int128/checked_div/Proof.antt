@@ -4,8 +4,8 @@ use borrow.Author.Rules.{rules}
 use Rattle.int128.proofs.Int128.checked_div.Statement.{statement}
 use Rattle.int128.proofs.Int128.checked_div.Tie as tie
 
-pub checked-div-spec : {M : Type 1} → statement M
-checked-div-spec =
+pub checked_div_spec : {M : Type 1} → statement M
+checked_div_spec =
     tie.close (tie.spec
     (λ c κs. search rules)  -- is-zero-requires
     (λ c. search quotients)  -- returns

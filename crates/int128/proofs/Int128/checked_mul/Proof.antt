@@ -4,8 +4,8 @@ use borrow.Author.Rules.{rules}
 use Rattle.int128.proofs.Int128.checked_mul.Statement.{statement}
 use Rattle.int128.proofs.Int128.checked_mul.Tie as tie
 
-pub checked-mul-spec : {M : Type 1} → statement M
-checked-mul-spec =
+pub checked_mul_spec : {M : Type 1} → statement M
+checked_mul_spec =
     tie.close (tie.spec
     (λ c κs. search rules)  -- mul-words-requires
     (λ c. search rules)  -- enum-known-product

@@ -4,8 +4,8 @@ use borrow.Author.Rules.{rules}
 use Rattle.int128.proofs.Int128.checked_pow.Statement.{statement}
 use Rattle.int128.proofs.Int128.checked_pow.Tie as tie
 
-pub checked-pow-spec : {M : Type 1} → statement M
-checked-pow-spec =
+pub checked_pow_spec : {M : Type 1} → statement M
+checked_pow_spec =
     tie.close (tie.spec
     (λ c κs. search rules)  -- to-u64-requires
     (λ c. search rules)  -- enum-known-n

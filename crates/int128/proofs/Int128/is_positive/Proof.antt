@@ -4,8 +4,8 @@ use borrow.Author.Rules.{rules}
 use Rattle.int128.proofs.Int128.is_positive.Statement.{statement}
 use Rattle.int128.proofs.Int128.is_positive.Tie as tie
 
-pub is-positive-spec : {M : Type 1} → statement M
-is-positive-spec =
+pub is_positive_spec : {M : Type 1} → statement M
+is_positive_spec =
     tie.close (tie.spec
     (λ c. search words)  -- returns
     (λ c κs. search rules)  -- is-zero-requires

@@ -3,8 +3,8 @@ use Rattle.int128.proofs.Power.{words}
 use Rattle.int128.proofs.Int128.to_u64.Statement.{statement}
 use Rattle.int128.proofs.Int128.to_u64.Tie as tie
 
-pub to-u64-spec : {M : Type 1} → statement M
-to-u64-spec =
+pub to_u64_spec : {M : Type 1} → statement M
+to_u64_spec =
     tie.close (tie.spec
     (λ c. search words)  -- returns
     (λ c. search words)  -- returns-2
