@@ -156,10 +156,11 @@ unfolding put_option OptionFits
 option-reads r put Fits back none h = none_reads r
 option-reads r put Fits back (some a) h = some-reads r (back _ _ a h)
 
-each-reads : {s : List ℕ} {at : ℕ} {A : Type 0} (r : Reader A) (put : A → List ℕ) (Fits : A → Type 0) → Back r put Fits → (xs : List A) → Each Fits xs → Reads s at (repeat [] ◌∷◌ r (length xs)) (flatten (map put xs)) xs
+each-reads : {A : Type 0} {s : List ℕ} {at : ℕ} (r : Reader A) (put : A → List ℕ) (Fits : A → Type 0) → Back r put Fits → (xs : List A) → Each Fits xs → Reads s at (repeat [] ◌∷◌ r (length xs)) (flatten (map put xs)) xs
 unfolding repeat flatten Each
 each-reads r put Fits back [] h = done-reads
-each-reads r put Fits back (x ∷ xs) h = seq _ (back _ _ x h.0) (last _ (each-reads r put Fits back xs h.1))
+each-reads {A = A} {s = s} {at = at} r put Fits back (x ∷ xs) h =
+    seq _ (back _ _ x h.0) (last _ (each-reads {at = at + length (put x)} r put Fits back xs h.1))
 
 -- a Vec, from its values read one after the other
 pub counted-reads : {s : List ℕ} {at : ℕ} {A B : Type 0} (nil : B) (cons : A → B → B) (r : Reader A) (n : ℕ) {bs : List ℕ} {b : B} → n ≤ vec_limit → Reads s (at + 1) (repeat nil cons r n) bs b → Reads s at (counted nil cons r) (n ∷ bs) b

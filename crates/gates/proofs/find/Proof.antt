@@ -6,10 +6,10 @@ use Rattle.gates.proofs.Loops.{Seeking, seeking}
 use Rattle.gates.proofs.find.Statement.{statement}
 use Rattle.gates.proofs.find.Tie as tie
 
-abbrev invariant-loop : tie.invariant-loop
+abbrev invariant-loop : tie.invariant-loop-i
 invariant-loop keys key i₀ i = Seeking keys key i
 
-abbrev decreases-loop : tie.decreases-loop
+abbrev decreases-loop : tie.decreases-loop-i
 decreases-loop keys key i₀ i = length keys - i
 
 pub find_spec : {M : Type 1} → statement M

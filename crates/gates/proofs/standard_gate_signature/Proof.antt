@@ -7,23 +7,23 @@ use Rattle.gates.proofs.Lookup.{keys_of, params_of, qubits_of, long-none, found,
 use Rattle.gates.proofs.standard_gate_signature.Statement.{statement}
 use Rattle.gates.proofs.standard_gate_signature.Tie as tie
 
-returns-2 : tie.Need-returns-2
+returns-2 : tie.Need-returns-then-n-lt28
 unfolding gates value keys_of params_of qubits_of
-returns-2 c = let u = c.before.before.before.before in found u.before.before.args.name.now (λ i. (u.before.shared-slice-known.given i).fits) (omega arith) _ _ c.before.before.key_of.ensures c.before.find.ensures c.if2.true
+returns-2 c = let u = c.before.before.before.before in found u.before.before.args.name.now (λ i. (u.before.shared_slice_known-1.given i).fits) (omega arith) _ _ c.before.before.key_of.ensures c.before.find-n.ensures c.if-n-lt28.true
 
-returns-3 : tie.Need-returns-3
+returns-3 : tie.Need-returns
 unfolding gates value keys_of params_of qubits_of
-returns-3 c = let u = c.before.before.before.before in missing u.before.before.args.name.now (λ i. (u.before.shared-slice-known.given i).fits) (omega arith) _ _ c.before.before.key_of.ensures c.before.find.ensures c.if2.false
+returns-3 c = let u = c.before.before.before.before in missing u.before.before.args.name.now (λ i. (u.before.shared_slice_known-1.given i).fits) (omega arith) _ _ c.before.before.key_of.ensures c.before.find-n.ensures c.if-n-lt28.false
 
-pub standard-gate-signature-spec : {M : Type 1} → statement M
-standard-gate-signature-spec =
+pub standard_gate_signature_spec : {M : Type 1} → statement M
+standard_gate_signature_spec =
     tie.close (tie.spec
-    (λ c. long-none c.before.before.args.name.now (omega arith))  -- returns
-    (λ c. search rules)  -- slice-aggregate-find
-    (λ c κs. search rules)  -- key-of-requires
-    (λ c κs. search rules)  -- find-requires
-    (λ c. search rules)  -- mul-t10
-    (λ c. search rules)  -- array-read-t13
-    (λ c. search rules)  -- mul-t15
-    (λ c. search rules)  -- array-read-t18
-    returns-2 returns-3)
+    (λ c. long-none c.before.before.args.name.now (omega arith))  -- returns-then-name-gt6
+    (λ c κs. search rules)  -- key_of-requires
+    (λ c κs. search rules)  -- find-n-requires
+    (λ c. search rules)  -- offset_bounds-params-n
+    (λ c. search rules)  -- bounds-params-n
+    (λ c. search rules)  -- offset_bounds-qubits-n
+    (λ c. search rules)  -- bounds-qubits-n
+    returns-2  -- returns-then-n-lt28
+    returns-3)

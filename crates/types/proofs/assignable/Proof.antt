@@ -7,10 +7,10 @@ use Rattle.types.proofs.assignable.Tie as tie
 
 returns : tie.Need-returns
 unfolding assignable_to answers
-returns c = let a = c.before.before.before.args in assigned a.expected a.actual _ _ c.before.before.number.ensures.0 c.before.number2.ensures.0
+returns c = let a = c.before.before.before.args in assigned a.expected a.actual _ _ c.before.before.number-row.ensures.0 c.before.number-column.ensures.0
 
-pub assignable-spec : {M : Type 1} → statement M
-assignable-spec =
+pub assignable_spec : {M : Type 1} → statement M
+assignable_spec =
     tie.close (tie.spec
     (λ c κs. search rules)  -- number-requires
     (λ c κs. search rules)  -- number-requires-2
