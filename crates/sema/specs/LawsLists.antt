@@ -48,7 +48,7 @@ module _ {A : Type 0} where
     one_less : length ls ≡ suc (length rest)
     others : (b : A) → Has ls b → (b ≡ a → ⊥) → Has rest b
 
-  without : {ls : List A} {a : A} → Has ls a → Without ls a
+  without : {a : A} {ls : List A} → Has ls a → Without ls a
   without {a = a} (Memᴰ.head {x = x} {xs = xs} e) = record { rest = xs; one_less = refl; others = λ b h n. keep b n (Memᴰ.cases_cons h) }
     where
       keep : (b : A) → (b ≡ a → ⊥) → (b ≡ x) ⊎ Has xs b → Has xs b

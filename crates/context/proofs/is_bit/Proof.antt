@@ -4,9 +4,9 @@ use Rattle.sema.specs.Operands.{fits}
 use Rattle.context.proofs.is_bit.Statement.{statement}
 use Rattle.context.proofs.is_bit.Tie as tie
 
-pub is-bit-spec : {M : Type 1} → statement M
+pub is_bit_spec : {M : Type 1} → statement M
 unfolding fits
-is-bit-spec =
+is_bit_spec =
     tie.close (tie.spec
     (λ c. search rules)  -- enum-told
     (λ c. search rules)  -- enum-told-2

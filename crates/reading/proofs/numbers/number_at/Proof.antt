@@ -5,14 +5,14 @@ use borrow.Author.Rules.{rules}
 use Rattle.reading.proofs.numbers.number_at.Statement.{statement}
 use Rattle.reading.proofs.numbers.number_at.Tie as tie
 
-abbrev invariant-loop : tie.invariant-loop
+abbrev invariant-loop : tie.invariant-loop-k
 invariant-loop s at end n₀ k₀ n k = Counting s at end n k
 
-abbrev decreases-loop : tie.decreases-loop
+abbrev decreases-loop : tie.decreases-loop-k
 decreases-loop s at end n₀ k₀ n k = end - k
 
-pub number-at-spec : {M : Type 1} → statement M
-number-at-spec =
+pub number_at_spec : {M : Type 1} → statement M
+number_at_spec =
     tie.close (tie.spec invariant-loop decreases-loop
     (λ c. search (counting, rules))  -- loop-holds
     (λ c. search (counting, rules))  -- mul-n
@@ -22,4 +22,4 @@ number-at-spec =
     (λ c. search rules)  -- add-k
     (λ c. search rules)  -- loop-less
     (λ c. search (counting, rules))  -- loop-again
-    (λ c. counting-end _ _ _ _ _ c.before.loop.invariant (search rules)))  -- returns
+    (λ c. counting-end _ _ _ _ _ c.before.loop-k.invariant (search rules)))  -- returns

@@ -4,8 +4,8 @@ use borrow.Author.Rules.{rules}
 use Rattle.reading.proofs.numbers.read_byte.Statement.{statement}
 use Rattle.reading.proofs.numbers.read_byte.Tie as tie
 
-pub read-byte-spec : {M : Type 1} → statement M
-read-byte-spec =
+pub read_byte_spec : {M : Type 1} → statement M
+read_byte_spec =
     tie.close (tie.spec
     (λ c. search leaves)  -- returns
     (λ c. search rules)  -- shared-slice-read-t7

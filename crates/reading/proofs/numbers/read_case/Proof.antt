@@ -4,8 +4,8 @@ use borrow.Author.Rules.{rules}
 use Rattle.reading.proofs.numbers.read_case.Statement.{statement}
 use Rattle.reading.proofs.numbers.read_case.Tie as tie
 
-pub read-case-spec : {M : Type 1} → statement M
-read-case-spec =
+pub read_case_spec : {M : Type 1} → statement M
+read_case_spec =
     tie.close (tie.spec
     (λ c κs. search rules)  -- read-byte-requires
     (λ c. search rules)  -- enum-known-a

@@ -4,8 +4,8 @@ use borrow.Author.Rules.{rules}
 use Rattle.reading.proofs.numbers.read_count.Statement.{statement}
 use Rattle.reading.proofs.numbers.read_count.Tie as tie
 
-pub read-count-spec : {M : Type 1} → statement M
-read-count-spec =
+pub read_count_spec : {M : Type 1} → statement M
+read_count_spec =
     tie.close (tie.spec
     (λ c κs. search rules)  -- read-byte-requires
     (λ c. search rules)  -- enum-known-a

@@ -4,8 +4,8 @@ use borrow.Author.Rules.{rules}
 use Rattle.reading.proofs.numbers.read_number.Statement.{statement}
 use Rattle.reading.proofs.numbers.read_number.Tie as tie
 
-pub read-number-spec : {M : Type 1} → statement M
-read-number-spec =
+pub read_number_spec : {M : Type 1} → statement M
+read_number_spec =
     tie.close (tie.spec
     (λ c κs. search rules)  -- bytes-from-requires
     (λ c. search leaves)  -- returns

@@ -4,8 +4,8 @@ use borrow.Author.Rules.{rules}
 use Rattle.reading.proofs.numbers.read_optional_slice.Statement.{statement}
 use Rattle.reading.proofs.numbers.read_optional_slice.Tie as tie
 
-pub read-optional-slice-spec : {M : Type 1} → statement M
-read-optional-slice-spec =
+pub read_optional_slice_spec : {M : Type 1} → statement M
+read_optional_slice_spec =
     tie.close (tie.spec
     (λ c κs. search rules)  -- read-case-requires
     (λ c. search rules)  -- enum-known-a

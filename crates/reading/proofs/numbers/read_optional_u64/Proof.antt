@@ -4,8 +4,8 @@ use borrow.Author.Rules.{rules}
 use Rattle.reading.proofs.numbers.read_optional_u64.Statement.{statement}
 use Rattle.reading.proofs.numbers.read_optional_u64.Tie as tie
 
-pub read-optional-u64-spec : {M : Type 1} → statement M
-read-optional-u64-spec =
+pub read_optional_u64_spec : {M : Type 1} → statement M
+read_optional_u64_spec =
     tie.close (tie.spec
     (λ c κs. search rules)  -- read-case-requires
     (λ c. search rules)  -- enum-known-a

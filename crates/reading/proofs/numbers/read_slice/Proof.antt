@@ -5,8 +5,8 @@ use borrow.Author.Rules.{rules}
 use Rattle.reading.proofs.numbers.read_slice.Statement.{statement}
 use Rattle.reading.proofs.numbers.read_slice.Tie as tie
 
-pub read-slice-spec : {M : Type 1} → statement M
-read-slice-spec =
+pub read_slice_spec : {M : Type 1} → statement M
+read_slice_spec =
     tie.close (tie.spec
     (λ c κs. search rules)  -- read-u64-requires
     (λ c. search rules)  -- enum-known-a

@@ -4,8 +4,8 @@ use borrow.Author.Rules.{rules}
 use Rattle.reading.proofs.numbers.read_span.Statement.{statement}
 use Rattle.reading.proofs.numbers.read_span.Tie as tie
 
-pub read-span-spec : {M : Type 1} → statement M
-read-span-spec =
+pub read_span_spec : {M : Type 1} → statement M
+read_span_spec =
     tie.close (tie.spec
     (λ c κs. search rules)  -- bytes-from-requires
     (λ c. search leaves)  -- returns

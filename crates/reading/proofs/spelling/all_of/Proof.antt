@@ -9,14 +9,14 @@ use borrow.Author.Rules.{rules}
 use Rattle.reading.proofs.spelling.all_of.Statement.{statement}
 use Rattle.reading.proofs.spelling.all_of.Tie as tie
 
-abbrev invariant-loop : tie.invariant-loop
+abbrev invariant-loop : tie.invariant-loop-i
 invariant-loop x letters good₀ i₀ good i = every (λ c. (letters && letter c) || digit c) x ≡ (good && every (λ c. (letters && letter c) || digit c) (drop i x))
 
-abbrev decreases-loop : tie.decreases-loop
+abbrev decreases-loop : tie.decreases-loop-i
 decreases-loop x letters good₀ i₀ good i = length x - i
 
-pub all-of-spec : {M : Type 1} → statement M
-all-of-spec =
+pub all_of_spec : {M : Type 1} → statement M
+all_of_spec =
     tie.close (tie.spec invariant-loop decreases-loop
     (λ c. refl)  -- loop-holds
     (λ c. search rules)  -- shared-slice-read-allows
@@ -24,5 +24,5 @@ all-of-spec =
     (λ c κs. search rules)  -- both-requires
     (λ c. search rules)  -- add-i
     (λ c. search rules)  -- loop-less
-    (λ c. every_more _ _ _ _ c.before.before.before.before.loop.invariant (search rules) _ c.before.allows.ensures _ c.both.ensures)  -- loop-again
+    (λ c. every_more _ _ _ _ c.before.before.before.before.loop-i.invariant (search rules) _ c.before.allows.ensures _ c.both-good.ensures)  -- loop-again
     (λ c. search scanning))  -- returns

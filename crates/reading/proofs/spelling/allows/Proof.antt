@@ -4,8 +4,8 @@ use borrow.Author.Rules.{rules}
 use Rattle.reading.proofs.spelling.allows.Statement.{statement}
 use Rattle.reading.proofs.spelling.allows.Tie as tie
 
-pub allows-spec : {M : Type 1} → statement M
-allows-spec =
+pub allows_spec : {M : Type 1} → statement M
+allows_spec =
     tie.close (tie.spec
     (λ c κs. search rules)  -- is-letter-requires
     (λ c. search allowing)  -- returns

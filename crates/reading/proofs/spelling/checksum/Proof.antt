@@ -6,26 +6,26 @@ use borrow.Author.Rules.{rules}
 use Rattle.reading.proofs.spelling.checksum.Statement.{statement}
 use Rattle.reading.proofs.spelling.checksum.Tie as tie
 
-abbrev invariant-loop : tie.invariant-loop
+abbrev invariant-loop : tie.invariant-loop-i
 invariant-loop x h₀ i₀ h i = Summing x h i
 
-abbrev decreases-loop : tie.decreases-loop
+abbrev decreases-loop : tie.decreases-loop-i
 decreases-loop x h₀ i₀ h i = length x - i
 
-abbrev invariant-loop2 : tie.invariant-loop2
+abbrev invariant-loop2 : tie.invariant-loop-i-2
 invariant-loop2 x h₀ i₀ h i = Summing x h i
 
-abbrev decreases-loop2 : tie.decreases-loop2
+abbrev decreases-loop2 : tie.decreases-loop-i-2
 decreases-loop2 x h₀ i₀ h i = length x - i
 
-abbrev invariant-loop3 : tie.invariant-loop3
+abbrev invariant-loop3 : tie.invariant-loop-i-3
 invariant-loop3 x h₀ i₀ h i = Summing x h i × (length x < i + 4)
 
-abbrev decreases-loop3 : tie.decreases-loop3
+abbrev decreases-loop3 : tie.decreases-loop-i-3
 decreases-loop3 x h₀ i₀ h i = length x - i
 
-pub checksum-spec : {M : Type 1} → statement M
-checksum-spec =
+pub checksum_spec : {M : Type 1} → statement M
+checksum_spec =
     tie.close (tie.spec invariant-loop decreases-loop invariant-loop2 decreases-loop2 invariant-loop3 decreases-loop3
     (λ c. search summed)  -- loop-holds
     (λ c. search rules)  -- add-loop

@@ -3,8 +3,8 @@ use Rattle.reading.proofs.Spelled.{bytes}
 use Rattle.reading.proofs.spelling.is_digit.Statement.{statement}
 use Rattle.reading.proofs.spelling.is_digit.Tie as tie
 
-pub is-digit-spec : {M : Type 1} → statement M
-is-digit-spec =
+pub is_digit_spec : {M : Type 1} → statement M
+is_digit_spec =
     tie.close (tie.spec
     (λ c. search bytes)  -- returns
     (λ c. search bytes)  -- returns-2

@@ -4,8 +4,8 @@ use borrow.Author.Rules.{rules}
 use Rattle.reading.proofs.spelling.is_digits.Statement.{statement}
 use Rattle.reading.proofs.spelling.is_digits.Tie as tie
 
-pub is-digits-spec : {M : Type 1} → statement M
-is-digits-spec =
+pub is_digits_spec : {M : Type 1} → statement M
+is_digits_spec =
     tie.close (tie.spec
     (λ c. search spelled)  -- returns
     (λ c κs. search rules)  -- all-of-requires

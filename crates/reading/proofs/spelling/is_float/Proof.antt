@@ -4,8 +4,8 @@ use borrow.Author.Rules.{rules}
 use Rattle.reading.proofs.spelling.is_float.Statement.{statement}
 use Rattle.reading.proofs.spelling.is_float.Tie as tie
 
-pub is-float-spec : {M : Type 1} → statement M
-is-float-spec =
+pub is_float_spec : {M : Type 1} → statement M
+is_float_spec =
     tie.close (tie.spec
     (λ c. search spelled)  -- returns
     (λ c. search rules)  -- shared-slice-read-is-digit

@@ -8,14 +8,14 @@ use borrow.Author.Rules.{rules}
 use Rattle.reading.proofs.spelling.is_fraction.Statement.{statement}
 use Rattle.reading.proofs.spelling.is_fraction.Tie as tie
 
-abbrev invariant-loop : tie.invariant-loop
+abbrev invariant-loop : tie.invariant-loop-i
 invariant-loop x i₀ i = fraction x ≡ fraction (drop i x)
 
-abbrev decreases-loop : tie.decreases-loop
+abbrev decreases-loop : tie.decreases-loop-i
 decreases-loop x i₀ i = length x - i
 
-pub is-fraction-spec : {M : Type 1} → statement M
-is-fraction-spec =
+pub is_fraction_spec : {M : Type 1} → statement M
+is_fraction_spec =
     tie.close (tie.spec invariant-loop decreases-loop
     (λ c. refl)  -- loop-holds
     (λ c. search rules)  -- shared-slice-read-is-digit

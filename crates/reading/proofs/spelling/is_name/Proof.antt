@@ -4,8 +4,8 @@ use borrow.Author.Rules.{rules}
 use Rattle.reading.proofs.spelling.is_name.Statement.{statement}
 use Rattle.reading.proofs.spelling.is_name.Tie as tie
 
-pub is-name-spec : {M : Type 1} → statement M
-is-name-spec =
+pub is_name_spec : {M : Type 1} → statement M
+is_name_spec =
     tie.close (tie.spec
     (λ c. search spelled)  -- returns
     (λ c. search rules)  -- shared-slice-read-is-letter

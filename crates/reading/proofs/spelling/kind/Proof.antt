@@ -4,8 +4,8 @@ use borrow.Author.Rules.{rules}
 use Rattle.reading.proofs.spelling.kind.Statement.{statement}
 use Rattle.reading.proofs.spelling.kind.Tie as tie
 
-pub kind-spec : {M : Type 1} → statement M
-kind-spec =
+pub kind_spec : {M : Type 1} → statement M
+kind_spec =
     tie.close (tie.spec
     (λ c κs. search rules)  -- is-name-requires
     (λ c. search spelled)  -- returns

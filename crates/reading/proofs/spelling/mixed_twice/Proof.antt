@@ -4,8 +4,8 @@ use borrow.Author.Rules.{rules}
 use Rattle.reading.proofs.spelling.mixed_twice.Statement.{statement}
 use Rattle.reading.proofs.spelling.mixed_twice.Tie as tie
 
-pub mixed-twice-spec : {M : Type 1} → statement M
-mixed-twice-spec =
+pub mixed_twice_spec : {M : Type 1} → statement M
+mixed_twice_spec =
     tie.close (tie.spec
     (λ c. search rules)  -- mul-result
     (λ c. search rules)  -- mul-result-2

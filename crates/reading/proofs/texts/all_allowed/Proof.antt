@@ -9,14 +9,14 @@ use borrow.Author.Rules.{rules}
 use Rattle.reading.proofs.texts.all_allowed.Statement.{statement}
 use Rattle.reading.proofs.texts.all_allowed.Tie as tie
 
-abbrev invariant-loop : tie.invariant-loop
+abbrev invariant-loop : tie.invariant-loop-i
 invariant-loop x good₀ i₀ good i = every (between 33 126) x ≡ (good && every (between 33 126) (drop i x))
 
-abbrev decreases-loop : tie.decreases-loop
+abbrev decreases-loop : tie.decreases-loop-i
 decreases-loop x good₀ i₀ good i = length x - i
 
-pub all-allowed-spec : {M : Type 1} → statement M
-all-allowed-spec =
+pub all_allowed_spec : {M : Type 1} → statement M
+all_allowed_spec =
     tie.close (tie.spec invariant-loop decreases-loop
     (λ c. refl)  -- loop-holds
     (λ c. search rules)  -- shared-slice-read-is-allowed

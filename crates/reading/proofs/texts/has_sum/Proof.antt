@@ -6,14 +6,14 @@ use borrow.Author.Rules.{rules}
 use Rattle.reading.proofs.texts.has_sum.Statement.{statement}
 use Rattle.reading.proofs.texts.has_sum.Tie as tie
 
-abbrev invariant-loop : tie.invariant-loop
+abbrev invariant-loop : tie.invariant-loop-i
 invariant-loop sums sum found₀ i₀ found i = Hunting sums sum found i
 
-abbrev decreases-loop : tie.decreases-loop
+abbrev decreases-loop : tie.decreases-loop-i
 decreases-loop sums sum found₀ i₀ found i = length sums - i
 
-pub has-sum-spec : {M : Type 1} → statement M
-has-sum-spec =
+pub has_sum_spec : {M : Type 1} → statement M
+has_sum_spec =
     tie.close (tie.spec invariant-loop decreases-loop
     (λ c. search hunted)  -- loop-holds
     (λ c. search rules)  -- mul-or-equal

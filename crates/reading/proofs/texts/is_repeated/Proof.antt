@@ -4,14 +4,14 @@ use borrow.Author.Rules.{rules}
 use Rattle.reading.proofs.texts.is_repeated.Statement.{statement}
 use Rattle.reading.proofs.texts.is_repeated.Tie as tie
 
-abbrev invariant-loop : tie.invariant-loop
+abbrev invariant-loop : tie.invariant-loop-i
 invariant-loop s x sum n sums k₀ i₀ k i = Looking s x n sums k i
 
-abbrev decreases-loop : tie.decreases-loop
+abbrev decreases-loop : tie.decreases-loop-i
 decreases-loop s x sum n sums k₀ i₀ k i = i
 
-pub is-repeated-spec : {M : Type 1} → statement M
-is-repeated-spec =
+pub is_repeated_spec : {M : Type 1} → statement M
+is_repeated_spec =
     tie.close (tie.spec invariant-loop decreases-loop
     (λ c κs. search rules)  -- has-sum-requires
     (λ c. search not_repeated)  -- returns

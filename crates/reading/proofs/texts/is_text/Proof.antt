@@ -4,8 +4,8 @@ use borrow.Author.Rules.{rules}
 use Rattle.reading.proofs.texts.is_text.Statement.{statement}
 use Rattle.reading.proofs.texts.is_text.Tie as tie
 
-pub is-text-spec : {M : Type 1} → statement M
-is-text-spec =
+pub is_text_spec : {M : Type 1} → statement M
+is_text_spec =
     tie.close (tie.spec
     (λ c κs. search rules)  -- text-at-requires
     (λ c κs. search rules)  -- is-same-requires

@@ -5,14 +5,14 @@ use borrow.Author.Rules.{rules}
 use Rattle.reading.proofs.texts.read_allowed.Statement.{statement}
 use Rattle.reading.proofs.texts.read_allowed.Tie as tie
 
-abbrev invariant-loop : tie.invariant-loop
+abbrev invariant-loop : tie.invariant-loop-k
 invariant-loop s at end k₀ k = Seeking s at end k
 
-abbrev decreases-loop : tie.decreases-loop
+abbrev decreases-loop : tie.decreases-loop-k
 decreases-loop s at end k₀ k = end - k
 
-pub read-allowed-spec : {M : Type 1} → statement M
-read-allowed-spec =
+pub read_allowed_spec : {M : Type 1} → statement M
+read_allowed_spec =
     tie.close (tie.spec invariant-loop decreases-loop
     (λ c. search rules)  -- sub-all-allowed
     (λ c. search rules)  -- part-all-allowed-start

@@ -4,8 +4,8 @@ use borrow.Author.Rules.{rules}
 use Rattle.reading.proofs.texts.read_name.Statement.{statement}
 use Rattle.reading.proofs.texts.read_name.Tie as tie
 
-pub read-name-spec : {M : Type 1} → statement M
-read-name-spec =
+pub read_name_spec : {M : Type 1} → statement M
+read_name_spec =
     tie.close (tie.spec
     (λ c κs. search rules)  -- read-spelled-requires
     (λ c. search names))  -- returns

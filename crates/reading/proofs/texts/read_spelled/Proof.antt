@@ -4,8 +4,8 @@ use borrow.Author.Rules.{rules}
 use Rattle.reading.proofs.texts.read_spelled.Statement.{statement}
 use Rattle.reading.proofs.texts.read_spelled.Tie as tie
 
-pub read-spelled-spec : {M : Type 1} → statement M
-read-spelled-spec =
+pub read_spelled_spec : {M : Type 1} → statement M
+read_spelled_spec =
     tie.close (tie.spec
     (λ c κs. search rules)  -- read-path-requires
     (λ c. search rules)  -- enum-known-a

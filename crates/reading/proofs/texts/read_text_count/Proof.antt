@@ -4,8 +4,8 @@ use borrow.Author.Rules.{rules}
 use Rattle.reading.proofs.texts.read_text_count.Statement.{statement}
 use Rattle.reading.proofs.texts.read_text_count.Tie as tie
 
-pub read-text-count-spec : {M : Type 1} → statement M
-read-text-count-spec =
+pub read_text_count_spec : {M : Type 1} → statement M
+read_text_count_spec =
     tie.close (tie.spec
     (λ c κs. search rules)  -- read-u16-requires
     (λ c. search rules)  -- enum-known-a

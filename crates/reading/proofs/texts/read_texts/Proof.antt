@@ -6,14 +6,14 @@ use borrow.Author.Rules.{rules}
 use Rattle.reading.proofs.texts.read_texts.Statement.{statement}
 use Rattle.reading.proofs.texts.read_texts.Tie as tie
 
-abbrev invariant-loop : tie.invariant-loop
+abbrev invariant-loop : tie.invariant-loop-i
 invariant-loop s first n kinds₀ sums₀ met₀ k₀ i₀ kinds sums met k i = Going s kinds sums met n i k
 
-abbrev decreases-loop : tie.decreases-loop
+abbrev decreases-loop : tie.decreases-loop-i
 decreases-loop s first n kinds₀ sums₀ met₀ k₀ i₀ kinds sums met k i = n - i
 
-pub read-texts-spec : {M : Type 1} → statement M
-read-texts-spec =
+pub read_texts_spec : {M : Type 1} → statement M
+read_texts_spec =
     tie.close (tie.spec invariant-loop decreases-loop
     (λ c. search (gathering, rules))  -- loop-holds
     (λ c κs. search rules)  -- read-text-requires
@@ -21,10 +21,10 @@ read-texts-spec =
     (λ c. search rules)  -- enum-told
     (λ c κs. search rules)  -- into-read-requires
     (λ c. search gathering)  -- returns
-    (λ c. let h = text-inside _ _ _ _ _ c.before.before.before.read-text.ensures c.before.a.given.1 in search rules)  -- add-x
-    (λ c. let h = text-inside _ _ _ _ _ c.before.before.before.read-text.ensures c.before.a.given.1 in search rules)  -- sub-x
-    (λ c. let h = text-inside _ _ _ _ _ c.before.before.before.read-text.ensures c.before.a.given.1 in search rules)  -- part-x-start
-    (λ c. let h = text-inside _ _ _ _ _ c.before.before.before.read-text.ensures c.before.a.given.1 in search rules)  -- part-x-end
+    (λ c. let h = text-inside _ _ _ _ _ c.before.before.before.read_text-a.ensures c.before.a-1.given.1 in search rules)  -- add-x
+    (λ c. let h = text-inside _ _ _ _ _ c.before.before.before.read_text-a.ensures c.before.a-1.given.1 in search rules)  -- sub-x
+    (λ c. let h = text-inside _ _ _ _ _ c.before.before.before.read_text-a.ensures c.before.a-1.given.1 in search rules)  -- part-x-start
+    (λ c. let h = text-inside _ _ _ _ _ c.before.before.before.read_text-a.ensures c.before.a-1.given.1 in search rules)  -- part-x-end
     (λ c κs. search rules)  -- checksum-requires
     (λ c κs. search rules)  -- slot-of-requires
     (λ c. search (gathering, rules))  -- array-read-if1
@@ -38,5 +38,5 @@ read-texts-spec =
     (λ c. search rules)  -- array-write-sums
     (λ c. search rules)  -- add-i
     (λ c. search rules)  -- loop-less
-    (λ c. ⊎_elim (λ w. search gathering) (λ w. search gathering) c.if1.branch)  -- loop-again
+    (λ c. ⊎_elim (λ w. search gathering) (λ w. search gathering) c.if-met-slot-ne0.branch)  -- loop-again
     (λ c. search gathering))  -- returns-3

@@ -4,8 +4,8 @@ use borrow.Author.Rules.{rules}
 use Rattle.reading.proofs.texts.text_at.Statement.{statement}
 use Rattle.reading.proofs.texts.text_at.Tie as tie
 
-pub text-at-spec : {M : Type 1} → statement M
-text-at-spec =
+pub text_at_spec : {M : Type 1} → statement M
+text_at_spec =
     tie.close (tie.spec
     (λ c κs. search rules)  -- past-text-requires
     (λ c. search rules)  -- add-result

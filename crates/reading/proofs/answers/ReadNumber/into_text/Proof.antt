@@ -4,8 +4,8 @@ use borrow.Author.Rules.{rules}
 use Rattle.reading.proofs.answers.ReadNumber.into_text.Statement.{statement}
 use Rattle.reading.proofs.answers.ReadNumber.into_text.Tie as tie
 
-pub into-text-spec : {M : Type 1} → statement M
-into-text-spec =
+pub into_text_spec : {M : Type 1} → statement M
+into_text_spec =
     tie.close (tie.spec
     (λ c. search rules)  -- enum-known-self
     (λ c κs. search rules)  -- size-requires

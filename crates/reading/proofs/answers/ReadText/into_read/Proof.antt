@@ -4,8 +4,8 @@ use borrow.Author.Rules.{rules}
 use Rattle.reading.proofs.answers.ReadText.into_read.Statement.{statement}
 use Rattle.reading.proofs.answers.ReadText.into_read.Tie as tie
 
-pub into-read-spec : {M : Type 1} → statement M
-into-read-spec =
+pub into_read_spec : {M : Type 1} → statement M
+into_read_spec =
     tie.close (tie.spec
     (λ c. search rules)  -- enum-known-self
     (λ c. search rules)  -- enum-known-self-2
