@@ -6,6 +6,7 @@ use mathlib.Core.List.{List, [], ◌∷◌, Memᴰ}
 use mathlib.Core.Logic.{◌↔◌}
 use Prim.Native.Nat.{ℕ, suc, ◌+◌, ◌≤◌, ◌<◌}
 use native.Mathlib.Omega.{arith}
+use lib.Dec.{T}
 use native.Mathlib.Decide.{dec_lt}
 use Rattle.span.specs.declared.Span.{Span}
 use Rattle.ast.specs.Tree.{GateOperand, Program}
@@ -14,7 +15,7 @@ use Rattle.sema.specs.Symbols.{empty as noSymbols}
 use Rattle.sema.specs.Marks.{no_marks}
 use Rattle.sema.specs.Stmts.{new, analyze}
 use Rattle.paths.specs.Flow.{flows}
-use Rattle.paths.specs.Steps.{sizes, no_mark, Step, PathOf, path_steps}
+use Rattle.paths.specs.Steps.{sizes, no_mark, Step, Some, covers, PathOf, path_steps}
 use Rattle.paths.specs.Places.{Place, places_of, Ordered, Fits}
 use Rattle.paths.specs.Errors.{Line, line, use_lines, Named, ErrsOn, Lists, done, has, skip, Number, nil, one, not, tally, count, Prints, prints}
 use Rattle.paths.proofs.Standing.{Sound}
@@ -56,7 +57,8 @@ named-one C op sp (some r) k l v w =
     v.5 ∙ ap (λ (j : ℕ). line sp (Messages.used_index op.name j)) e ∙ sym w.5
 
 pub errs_one : (p : Program) (q : Place) (k l : Line) → ErrsOn p q k → ErrsOn p q l → k ≡ l
-errs_one p q k l v w = named-one _ q.op q.span q.op.slice k l v w
+errs_one p q k l v w =
+    named-one (λ i. Some {J = PathOf p} (λ c. no_mark) (λ c. path_steps p c) q.number (λ m. T (covers q.symbols m q.op.name i))) q.op q.span q.op.slice k l v w
 
 -- ── How many ──
 

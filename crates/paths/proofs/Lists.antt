@@ -5,7 +5,8 @@ use mathlib.Core.Logic.{◌↔◌}
 use Prim.Native.Nat.{ℕ, ◌≤◌, ◌<◌}
 use Rattle.span.specs.declared.Span.{Span}
 use Rattle.ast.specs.Tree.{GateOperand}
-use Rattle.paths.specs.Steps.{Step, State, Some}
+use lib.Dec.{T}
+use Rattle.paths.specs.Steps.{Step, State, Some, covers}
 use Rattle.paths.specs.Places.{Place}
 use Rattle.paths.specs.Errors.{Line, Named, Errs, Lists, done, has, skip}
 use Rattle.paths.proofs.Ranges.{bare, more, PlacesIn}
@@ -29,6 +30,6 @@ pub move : {J K : Type 0} (st : J → State) (π : J → List Step) (st' : K →
     → {qs : List Place} {ls : List Line} → PlacesIn lo hi qs → Lists (Errs st π) qs ls → Lists (Errs st' π') qs ls
 move st π st' π' f bare done = done
 move st π st' π' f (more u v w) (has {q = q} {l = l} h t) =
-    has (named-map _ _ (λ i. f q.number u v _) q.op q.span q.op.slice l h) (move st π st' π' f w t)
+    has (named-map _ _ (λ i. f q.number u v (λ m. T (covers q.symbols m q.op.name i))) q.op q.span q.op.slice l h) (move st π st' π' f w t)
 move st π st' π' f (more u v w) (skip {q = q} h t) =
-    skip (λ l x. h l (named-map _ _ (λ i. flip (f q.number u v _)) q.op q.span q.op.slice l x)) (move st π st' π' f w t)
+    skip (λ l x. h l (named-map _ _ (λ i. flip (f q.number u v (λ m. T (covers q.symbols m q.op.name i)))) q.op q.span q.op.slice l x)) (move st π st' π' f w t)

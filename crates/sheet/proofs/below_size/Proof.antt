@@ -4,8 +4,8 @@ use borrow.Author.Rules.{rules}
 use Rattle.sheet.proofs.below_size.Statement.{statement}
 use Rattle.sheet.proofs.below_size.Tie as tie
 
-pub below-size-spec : {M : Type 1} → statement M
-below-size-spec =
+pub below_size_spec : {M : Type 1} → statement M
+below_size_spec =
     tie.close (tie.spec
     (λ c. search indices)  -- returns
     (λ c. search rules)  -- enum-known-size

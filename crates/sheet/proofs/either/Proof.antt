@@ -4,8 +4,8 @@ use Rattle.sheet.specs.Places.{first-zero, first_some}
 use Rattle.sheet.proofs.either.Statement.{statement}
 use Rattle.sheet.proofs.either.Tie as tie
 
-pub either-spec : {M : Type 1} → statement M
-either-spec =
+pub either_spec : {M : Type 1} → statement M
+either_spec =
     tie.close (tie.spec
-    (λ c. sym (first-zero _ _ c.if1.true))  -- returns
-    (λ c. sym (first_some _ _ c.if1.false)))  -- returns-2
+    (λ c. sym (first-zero _ _ c.if-place-eq0.true))  -- returns
+    (λ c. sym (first_some _ _ c.if-place-eq0.false)))  -- returns-2

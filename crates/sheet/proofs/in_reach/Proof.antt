@@ -4,8 +4,8 @@ use borrow.Author.Rules.{rules}
 use Rattle.sheet.proofs.in_reach.Statement.{statement}
 use Rattle.sheet.proofs.in_reach.Tie as tie
 
-pub in-reach-spec : {M : Type 1} → statement M
-in-reach-spec =
+pub in_reach_spec : {M : Type 1} → statement M
+in_reach_spec =
     tie.close (tie.spec
     (λ c. search rules)  -- enum-known-slice
     (λ c κs. search rules)  -- within-requires

@@ -4,8 +4,8 @@ use borrow.Author.Rules.{rules}
 use Rattle.sheet.proofs.lookup.Statement.{statement}
 use Rattle.sheet.proofs.lookup.Tie as tie
 
-pub lookup-spec : {M : Type 1} → statement M
-lookup-spec =
+pub lookup_spec : {M : Type 1} → statement M
+lookup_spec =
     tie.close (tie.spec
     (λ c κs. search rules)  -- whole-head-requires
     (λ c. search rules)  -- enum-known-i

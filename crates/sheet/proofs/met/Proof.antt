@@ -4,8 +4,8 @@ use borrow.Author.Rules.{rules}
 use Rattle.sheet.proofs.met.Statement.{statement}
 use Rattle.sheet.proofs.met.Tie as tie
 
-pub met-spec : {M : Type 1} → statement M
-met-spec =
+pub met_spec : {M : Type 1} → statement M
+met_spec =
     tie.close (tie.spec
     (λ c. search meeting)  -- returns
     (λ c. search rules)  -- mul-same-key

@@ -4,8 +4,8 @@ use borrow.Author.Rules.{rules}
 use Rattle.sheet.proofs.nearer.Statement.{statement}
 use Rattle.sheet.proofs.nearer.Tie as tie
 
-pub nearer-spec : {M : Type 1} → statement M
-nearer-spec =
+pub nearer_spec : {M : Type 1} → statement M
+nearer_spec =
     tie.close (tie.spec
     (λ c. search rules)  -- enum-known-best
     (λ c. search nearest)  -- returns

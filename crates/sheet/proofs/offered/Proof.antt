@@ -4,8 +4,8 @@ use borrow.Author.Rules.{rules}
 use Rattle.sheet.proofs.offered.Statement.{statement}
 use Rattle.sheet.proofs.offered.Tie as tie
 
-pub offered-spec : {M : Type 1} → statement M
-offered-spec =
+pub offered_spec : {M : Type 1} → statement M
+offered_spec =
     tie.close (tie.spec
     (λ c. search offers)  -- returns
     (λ c. search rules)  -- mul-head

@@ -6,14 +6,14 @@ use borrow.Author.Rules.{rules}
 use Rattle.sheet.proofs.place_of.Statement.{statement}
 use Rattle.sheet.proofs.place_of.Tie as tie
 
-abbrev invariant-loop : tie.invariant-loop
+abbrev invariant-loop : tie.invariant-loop-k
 invariant-loop sheet index count head i whole own₀ other₀ k₀ own other k = Looking index count sheet (key_by head i) (key_by whole 0) own other k
 
-abbrev decreases-loop : tie.decreases-loop
+abbrev decreases-loop : tie.decreases-loop-k
 decreases-loop sheet index count head i whole own₀ other₀ k₀ own other k = count - k
 
-pub place-of-spec : {M : Type 1} → statement M
-place-of-spec =
+pub place_of_spec : {M : Type 1} → statement M
+place_of_spec =
     tie.close (tie.spec invariant-loop decreases-loop
     (λ c. search looking)  -- loop-holds
     (λ c. search rules)  -- mul-place

@@ -3,8 +3,8 @@ use Rattle.sheet.proofs.Tests.{indices}
 use Rattle.sheet.proofs.same_key.Statement.{statement}
 use Rattle.sheet.proofs.same_key.Tie as tie
 
-pub same-key-spec : {M : Type 1} → statement M
-same-key-spec =
+pub same_key_spec : {M : Type 1} → statement M
+same_key_spec =
     tie.close (tie.spec
     (λ c. search indices)  -- returns
     (λ c. search indices)  -- returns-2

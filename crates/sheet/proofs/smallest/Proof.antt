@@ -4,8 +4,8 @@ use borrow.Author.Rules.{rules}
 use Rattle.sheet.proofs.smallest.Statement.{statement}
 use Rattle.sheet.proofs.smallest.Tie as tie
 
-pub smallest-spec : {M : Type 1} → statement M
-smallest-spec =
+pub smallest_spec : {M : Type 1} → statement M
+smallest_spec =
     tie.close (tie.spec
     (λ c. search least-covered)  -- returns
     (λ c κs. search rules)  -- lookup-requires

@@ -8,19 +8,19 @@ use borrow.Author.Rules.{rules}
 use Rattle.sheet.proofs.store.Statement.{statement}
 use Rattle.sheet.proofs.store.Tie as tie
 
-abbrev invariant-loop : tie.invariant-loop
+abbrev invariant-loop : tie.invariant-loop-k
 invariant-loop sheet₀ index count op size all place k₀ sheet k = Storing (touches all (number_of size) (operand_of op)) place index count sheet₀ sheet k
 
-abbrev decreases-loop : tie.decreases-loop
+abbrev decreases-loop : tie.decreases-loop-k
 decreases-loop sheet₀ index count op size all place k₀ sheet k = count - k
 
-loop-again : tie.Need-loop-preserved invariant-loop decreases-loop
+loop-again : tie.Need-loop-k-preserved invariant-loop decreases-loop
 loop-again c =
-    let u = c.before.before.before.before in
+    let u = c in
     ⊎_elim
-    (λ w. storing-then _ _ _ _ _ _ _ _ u.before.loop.invariant _ u.loop-test.true c.before.touched.ensures w.0.taken w.1)
-    (λ w. storing_else _ _ _ _ _ _ _ _ u.before.loop.invariant _ u.loop-test.true c.before.touched.ensures w.0.left w.1)
-    c.if1.branch
+    (λ w. storing-then _ _ _ _ _ _ _ _ u.loop-k.invariant _ u.loop-k-test.true c.touched.ensures w.if-touched.true w.sheet-is)
+    (λ w. storing_else _ _ _ _ _ _ _ _ u.loop-k.invariant _ u.loop-k-test.true c.touched.ensures w.if-touched.false w.sheet-is)
+    c.if-touched.branch-raw
 
 pub store_spec : {M : Type 1} → statement M
 store_spec =

@@ -4,8 +4,8 @@ use borrow.Author.Rules.{rules}
 use Rattle.sheet.proofs.touched.Statement.{statement}
 use Rattle.sheet.proofs.touched.Tie as tie
 
-pub touched-spec : {M : Type 1} → statement M
-touched-spec =
+pub touched_spec : {M : Type 1} → statement M
+touched_spec =
     tie.close (tie.spec
     (λ c κs. search rules)  -- in-reach-requires
     (λ c. search touching)  -- returns

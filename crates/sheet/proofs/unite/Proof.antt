@@ -7,14 +7,14 @@ use borrow.Author.Rules.{rules}
 use Rattle.sheet.proofs.unite.Statement.{statement}
 use Rattle.sheet.proofs.unite.Tie as tie
 
-abbrev invariant-loop : tie.invariant-loop
+abbrev invariant-loop : tie.invariant-loop-i
 invariant-loop a b₀ i₀ b i = Uniting a b₀ b i
 
-abbrev decreases-loop : tie.decreases-loop
+abbrev decreases-loop : tie.decreases-loop-i
 decreases-loop a b₀ i₀ b i = 256 - i
 
-pub unite-spec : {M : Type 1} → statement M
-unite-spec =
+pub unite_spec : {M : Type 1} → statement M
+unite_spec =
     tie.close (tie.spec invariant-loop decreases-loop
     (λ c. search uniting)  -- loop-holds
     (λ c. search rules)  -- mul-either
@@ -26,5 +26,5 @@ unite-spec =
     (λ c. search rules)  -- element-write-b
     (λ c. search rules)  -- add-i
     (λ c. search rules)  -- loop-less
-    (λ c. uniting-more _ _ _ _ _ c.before.before.before.before.loop.invariant (search rules) (ap (set c.before.before.before.before.loop.b c.before.before.before.before.loop.i) c.either.ensures))  -- loop-again
+    (λ c. uniting-more _ _ _ _ _ c.loop-i.invariant (search rules) (ap (set c.loop-i.b c.loop-i.i) c.either.ensures))  -- loop-again
     (λ c. search uniting))  -- returns

@@ -5,8 +5,8 @@ use Rattle.accepted.proofs.Halves.{two_bytes}
 use Rattle.accepted.proofs.numbers.u16_at.Statement.{statement}
 use Rattle.accepted.proofs.numbers.u16_at.Tie as tie
 
-pub u16-at-spec : {M : Type 1} → statement M
-u16-at-spec =
+pub u16_at_spec : {M : Type 1} → statement M
+u16_at_spec =
     tie.close (tie.spec
     (λ c. search rules)  -- shared-slice-read-wide
     (λ c κs. search rules)  -- wide-requires

@@ -4,8 +4,8 @@ use Rattle.accepted.proofs.Halves.{four_bytes}
 use Rattle.accepted.proofs.numbers.u32_at.Statement.{statement}
 use Rattle.accepted.proofs.numbers.u32_at.Tie as tie
 
-pub u32-at-spec : {M : Type 1} → statement M
-u32-at-spec =
+pub u32_at_spec : {M : Type 1} → statement M
+u32_at_spec =
     tie.close (tie.spec
     (λ c. search rules)  -- shared-slice-read-word
     (λ c κs. search rules)  -- word-requires

@@ -5,8 +5,8 @@ use Rattle.accepted.proofs.Halves.{halves}
 use Rattle.accepted.proofs.numbers.u64_at.Statement.{statement}
 use Rattle.accepted.proofs.numbers.u64_at.Tie as tie
 
-pub u64-at-spec : {M : Type 1} → statement M
-u64-at-spec =
+pub u64_at_spec : {M : Type 1} → statement M
+u64_at_spec =
     tie.close (tie.spec
     (λ c κs. search rules)  -- u32-at-requires
     (λ c. search rules)  -- cast-high
@@ -15,4 +15,4 @@ u64-at-spec =
     (λ c. search rules)  -- cast-low
     (λ c. search rules)  -- mul-result
     (λ c. search rules)  -- add-result
-    (λ c. let a = c.before.before.before.args in halves 4 a.s.now a.at (omega arith) c.before.u32-at.ensures c.u32-at2.ensures))  -- returns
+    (λ c. let a = c.args in halves 4 a.s.now a.at (omega arith) c.u32_at-high.ensures c.u32_at-low.ensures))  -- returns

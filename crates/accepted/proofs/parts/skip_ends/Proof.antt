@@ -6,8 +6,8 @@ use Rattle.accepted.proofs.SkipParts.{option-room}
 use Rattle.accepted.proofs.parts.skip_ends.Statement.{statement}
 use Rattle.accepted.proofs.parts.skip_ends.Tie as tie
 
-pub skip-ends-spec : {M : Type 1} → statement M
-skip-ends-spec =
+pub skip_ends_spec : {M : Type 1} → statement M
+skip_ends_spec =
     tie.close (tie.spec
-    (λ c κs. option-room _ 16 slice-sized _ _ slice-moves c.before.requires)  -- skip-option-requires
-    (λ c. c.skip-option.ensures ∙ option_end_lem _ _ _ 16 slice-sized c.before.before.requires))  -- returns
+    (λ c κs. option-room _ 16 slice-sized _ _ slice-moves c.requires)  -- skip-option-requires
+    (λ c. c.skip_option.ensures ∙ option_end_lem _ _ _ 16 slice-sized c.requires))  -- returns

@@ -11,21 +11,21 @@ use borrow.Author.Rules.{rules}
 use Rattle.accepted.proofs.parts.skip_modifiers.Statement.{statement}
 use Rattle.accepted.proofs.parts.skip_modifiers.Tie as tie
 
-abbrev invariant-loop : tie.invariant-loop
+abbrev invariant-loop : tie.invariant-loop-n
 invariant-loop s at n₀ k₀ n k = Remains [] ◌∷◌ (modifier (texts_of s)) s (next_of (vec (modifier (texts_of s)) s at)) n k
 
-abbrev decreases-loop : tie.decreases-loop
+abbrev decreases-loop : tie.decreases-loop-n
 decreases-loop s at n₀ k₀ n k = n
 
-pub skip-modifiers-spec : {M : Type 1} → statement M
-skip-modifiers-spec =
+pub skip_modifiers_spec : {M : Type 1} → statement M
+skip_modifiers_spec =
     tie.close (tie.spec invariant-loop decreases-loop
     (λ c. search counted_in)  -- shared-slice-read-wide
     (λ c κs. search rules)  -- wide-requires
-    (λ c. let i = counted_in _ _ _ _ _ c.before.before.before.requires in omega arith)  -- add-k
-    (λ c. remains-start _ _ _ _ _ _ c.before.before.before.requires c.wide.ensures.0)  -- loop-holds
-    (λ c κs. repeat-first _ _ [] ◌∷◌ _ _ c.before.loop.invariant.rest c.loop-test.true)  -- skip-modifier-requires
+    (λ c. let i = counted_in _ _ _ _ _ c.requires in omega arith)  -- add-k
+    (λ c. remains-start _ _ _ _ _ _ c.requires c.wide-n.ensures.0)  -- loop-holds
+    (λ c κs. repeat-first _ _ [] ◌∷◌ _ _ c.loop-n.invariant.rest c.loop-n-test.true)  -- skip-modifier-requires
     (λ c. search rules)  -- sub-n
     (λ c. search rules)  -- loop-less
-    (λ c. remains-more c.before.before.loop.invariant c.before.loop-test.true c.skip-modifier.ensures)  -- loop-again
-    (λ c. remains-end c.before.loop.invariant c.loop-test.false))  -- returns
+    (λ c. remains-more c.loop-n.invariant c.loop-n-test.true c.skip_modifier-k.ensures)  -- loop-again
+    (λ c. remains-end c.loop-n.invariant c.loop-n-test.false))  -- returns

@@ -7,12 +7,12 @@ use borrow.Author.Rules.{rules}
 use Rattle.accepted.proofs.parts.skip_names.Statement.{statement}
 use Rattle.accepted.proofs.parts.skip_names.Tie as tie
 
-pub skip-names-spec : {M : Type 1} → statement M
-skip-names-spec =
+pub skip_names_spec : {M : Type 1} → statement M
+skip_names_spec =
     tie.close (tie.spec
-    (λ c. let i = counted_in _ _ _ _ _ c.before.requires in omega arith)  -- add-result
+    (λ c. let i = counted_in _ _ _ _ _ c.requires in omega arith)  -- add-result
     (λ c. search counted_in)  -- shared-slice-read-wide
     (λ c κs. search rules)  -- wide-requires
     (λ c. search rules)  -- mul-result
-    (λ c. let i = counted_in _ _ _ _ _ c.before.before.before.requires in omega arith)  -- add-result-2
-    (λ c. vec-next _ 2 (name-sized _) _ _ _ _ c.before.before.before.requires _ c.wide.ensures.0))  -- returns
+    (λ c. let i = counted_in _ _ _ _ _ c.requires in omega arith)  -- add-result-2
+    (λ c. vec-next _ 2 (name-sized _) _ _ _ _ c.requires _ c.wide.ensures.0))  -- returns

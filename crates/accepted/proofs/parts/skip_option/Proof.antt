@@ -5,12 +5,12 @@ use borrow.Author.Rules.{rules}
 use Rattle.accepted.proofs.parts.skip_option.Statement.{statement}
 use Rattle.accepted.proofs.parts.skip_option.Tie as tie
 
-pub skip-option-spec : {M : Type 1} → statement M
-skip-option-spec =
+pub skip_option_spec : {M : Type 1} → statement M
+skip_option_spec =
     tie.close (tie.spec
     (λ c. search rules)  -- shared-slice-read-if1
     (λ c. search rules)  -- add-result
-    (λ c. end_none _ _ _ c.if1.true)  -- returns
+    (λ c. end_none _ _ _ c.if-s-at-eq0.true)  -- returns
     (λ c. search rules)  -- add-result-2
-    (λ c. let e = end-some c.before.before.args.s.now c.before.before.args.at c.before.before.args.size c.if1.false in omega arith)  -- add-result-3
-    (λ c. end-some _ _ _ c.if1.false))  -- returns-2
+    (λ c. let e = end-some c.args.s.now c.args.at c.args.size c.if-s-at-eq0.false in omega arith)  -- add-result-3
+    (λ c. end-some _ _ _ c.if-s-at-eq0.false))  -- returns-2

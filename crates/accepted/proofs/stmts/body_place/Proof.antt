@@ -6,17 +6,17 @@ use native.Mathlib.Omega.{arith}
 use Rattle.accepted.proofs.stmts.body_place.Statement.{statement}
 use Rattle.accepted.proofs.stmts.body_place.Tie as tie
 
-pub body-place-spec : {M : Type 1} → statement M
-body-place-spec =
+pub body_place_spec : {M : Type 1} → statement M
+body_place_spec =
     tie.close (tie.spec
-    (λ c. stmt_in _ _ _ _ c.before.before.requires.0)  -- shared-slice-read-match
-    (λ c. let i = stmt_in _ _ _ _ c.before.before.before.requires.0 in omega arith)  -- add-skip-names
-    (λ c κs. gate_def-params _ _ _ _ c.before.before.before.requires.0 c.match.keys1)  -- skip-names-requires
-    (λ c κs. gate_def_qparams _ _ _ _ c.before.before.before.before.requires.0 c.before.match.keys1 _ c.skip-names.ensures)  -- skip-names-requires-2
-    (λ c. let i = stmt_in _ _ _ _ c.before.before.before.requires.0 in omega arith)  -- add-skip-range
-    (λ c κs. for_loop_range _ _ _ _ c.before.before.before.requires.0 c.match.keys2)  -- skip-range-requires
-    (λ c. let i = stmt_in _ _ _ _ c.before.before.before.requires.0 in omega arith)  -- add-skip-expr
-    (λ c κs. compound-condition _ _ _ _ c.before.before.before.requires.0 c.before.before.before.requires.1 c.match.rest.0.1 c.match.rest.1)  -- skip-expr-requires
-    (λ c. gate_place _ _ _ c.before.before.match.keys1 _ c.before.skip-names.ensures _ c.skip-names2.ensures)  -- returns
-    (λ c. for_place _ _ _ c.before.match.keys2 _ c.skip_range.ensures)  -- returns-2
-    (λ c. condition-place _ _ _ c.before.match.rest.0.1 c.before.match.rest.1 _ c.skip-expr.ensures))  -- returns-3
+    (λ c. stmt_in _ _ _ _ c.requires.0)  -- shared-slice-read-match
+    (λ c. let i = stmt_in _ _ _ _ c.requires.0 in omega arith)  -- add-skip-names
+    (λ c κs. gate_def-params _ _ _ _ c.requires.0 c.in_default.keys1)  -- skip-names-requires
+    (λ c κs. gate_def_qparams _ _ _ _ c.requires.0 c.in_default.keys1 _ c.skip_names-k.ensures)  -- skip-names-requires-2
+    (λ c. let i = stmt_in _ _ _ _ c.requires.0 in omega arith)  -- add-skip-range
+    (λ c κs. for_loop_range _ _ _ _ c.requires.0 c.in_default.keys2)  -- skip-range-requires
+    (λ c. let i = stmt_in _ _ _ _ c.requires.0 in omega arith)  -- add-skip-expr
+    (λ c κs. compound-condition _ _ _ _ c.requires.0 c.requires.1 c.in_default.rest.0.1 c.in_default.rest.1)  -- skip-expr-requires
+    (λ c. gate_place _ _ _ c.in_default.keys1 _ c.skip_names-k.ensures _ c.skip_names.ensures)  -- returns
+    (λ c. for_place _ _ _ c.in_default.keys2 _ c.skip_range.ensures)  -- returns-2
+    (λ c. condition-place _ _ _ c.in_default.rest.0.1 c.in_default.rest.1 _ c.skip_expr.ensures))  -- returns-3

@@ -7,16 +7,16 @@ use native.Mathlib.Omega.{arith}
 use Rattle.accepted.proofs.stmts.skip_delay.Statement.{statement}
 use Rattle.accepted.proofs.stmts.skip_delay.Tie as tie
 
-add-result : tie.Need-overflow-add-result
-add-result c = let i = delay-inside _ _ _ _ c.before.before.before.requires.0 c.before.before.before.requires.1 _ c.before.skip-expr.ensures _ c.skip-operands.ensures in omega arith
+add-result : tie.Need-overflow_add-result
+add-result c = let i = delay-inside _ _ _ _ c.requires.0 c.requires.1 _ c.skip_expr-k.ensures _ c.skip_operands.ensures in omega arith
 
 returns : tie.Need-returns
-returns c = sym (next_is (delay_is _ _ _ _ c.before.before.before.requires.0 c.before.before.before.requires.1 _ c.before.skip-expr.ensures _ c.skip-operands.ensures))
+returns c = sym (next_is (delay_is _ _ _ _ c.requires.0 c.requires.1 _ c.skip_expr-k.ensures _ c.skip_operands.ensures))
 
-pub skip-delay-spec : {M : Type 1} → statement M
-skip-delay-spec =
+pub skip_delay_spec : {M : Type 1} → statement M
+skip_delay_spec =
     tie.close (tie.spec
-    (λ c. let i = stmt_in _ _ _ _ c.before.requires.0 in omega arith)  -- add-skip-expr
-    (λ c κs. delay_duration _ _ _ _ c.before.requires.0 c.before.requires.1)  -- skip-expr-requires
-    (λ c κs. delay_targets _ _ _ _ c.before.before.requires.0 c.before.before.requires.1 _ c.skip-expr.ensures)  -- skip-operands-requires
+    (λ c. let i = stmt_in _ _ _ _ c.requires.0 in omega arith)  -- add-skip-expr
+    (λ c κs. delay_duration _ _ _ _ c.requires.0 c.requires.1)  -- skip-expr-requires
+    (λ c κs. delay_targets _ _ _ _ c.requires.0 c.requires.1 _ c.skip_expr-k.ensures)  -- skip-operands-requires
     add-result returns)

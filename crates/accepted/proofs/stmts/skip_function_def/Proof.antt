@@ -8,17 +8,17 @@ use native.Mathlib.Omega.{arith}
 use Rattle.accepted.proofs.stmts.skip_function_def.Statement.{statement}
 use Rattle.accepted.proofs.stmts.skip_function_def.Tie as tie
 
-add-result : tie.Need-overflow-add-result
-add-result c = let i = function_def-inside _ _ _ _ c.before.before.before.requires.0 c.before.before.before.requires.1 _ c.before.skip-params.ensures _ c.skip-expr.ensures in omega arith
+add-result : tie.Need-overflow_add-result
+add-result c = let i = function_def-inside _ _ _ _ c.requires.0 c.requires.1 _ c.skip_params-k.ensures _ c.skip_expr.ensures in omega arith
 
 returns : tie.Need-returns
-returns c = sym (next_is (function_def_is _ _ _ _ c.before.before.before.requires.0 c.before.before.before.requires.1 _ c.before.skip-params.ensures _ c.skip-expr.ensures))
+returns c = sym (next_is (function_def_is _ _ _ _ c.requires.0 c.requires.1 _ c.skip_params-k.ensures _ c.skip_expr.ensures))
 
-pub skip-function-def-spec : {M : Type 1} → statement M
-skip-function-def-spec =
+pub skip_function_def_spec : {M : Type 1} → statement M
+skip_function_def_spec =
     tie.close (tie.spec
-    (λ c. let i = stmt_in _ _ _ _ c.before.requires.0 in omega arith)  -- add-skip-params
-    (λ c κs. function_def-params _ _ _ _ c.before.requires.0 c.before.requires.1)  -- skip-params-requires
-    (λ c. let i = expr_in _ _ _ _ (function_def-body _ _ _ _ c.before.before.requires.0 c.before.before.requires.1 _ c.skip-params.ensures) in omega arith)  -- add-skip-expr
-    (λ c κs. function_def-body _ _ _ _ c.before.before.requires.0 c.before.before.requires.1 _ c.skip-params.ensures)  -- skip-expr-requires
+    (λ c. let i = stmt_in _ _ _ _ c.requires.0 in omega arith)  -- add-skip-params
+    (λ c κs. function_def-params _ _ _ _ c.requires.0 c.requires.1)  -- skip-params-requires
+    (λ c. let i = expr_in _ _ _ _ (function_def-body _ _ _ _ c.requires.0 c.requires.1 _ c.skip_params-k.ensures) in omega arith)  -- add-skip-expr
+    (λ c κs. function_def-body _ _ _ _ c.requires.0 c.requires.1 _ c.skip_params-k.ensures)  -- skip-expr-requires
     add-result returns)

@@ -46,10 +46,10 @@ abbrev μ-read-neg : Measures 2 read-neg-lts.ps ℕ
 abbrev μ-read-pair : Measures 2 read-pair-lts.ps ℕ
 μ-read-pair κs a = 3 * a.1.1.1.0 + 2
 
-abbrev read-args-Inv-loop : read-args-lts.invariant-loop
+abbrev read-args-Inv-loop : read-args-lts.invariant-loop-i
 read-args-Inv-loop s kinds at left n first k₀ i₀ k i = forget (exprs (expr (texts_of s) left) s at) ≡ forget (repeat no_expr more_expr (expr (texts_of s) left) i s k)
 
-abbrev read-args-μ-loop : read-args-lts.decreases-loop
+abbrev read-args-μ-loop : read-args-lts.decreases-loop-i
 read-args-μ-loop s kinds at left n first k₀ i₀ k i = i
 
 module _ (t : ℕ) where
@@ -133,8 +133,8 @@ module _ (t : ℕ) where
       (λ c. search rules)  -- enum-known-a: let ReadByte::At(b, k) = a else {
       (λ c. search rules)  -- enum_told: return a.into_read();
       (λ c κs. search rules)  -- into-read-requires
-      (λ c. level-refused (expr_levels _) _ _ _ _ c.before.before.before.read-case.ensures _ _ c.before.enum_told.given.1 _ c.into-read.ensures)  -- returns
-      (λ c. level-over (expr_levels _) _ _ _ _ c.before.before.before.before.read-case.ensures _ _ c.before.before.a.given.1 c.if1.true)  -- returns-2: return Read::Refused(6, at);
+      (λ c. level-refused (expr_levels _) _ _ _ _ c.read_case-a.ensures _ _ c.in_default.is _ c.into_read.ensures)  -- returns
+      (λ c. level-over (expr_levels _) _ _ _ _ c.read_case-a.ensures _ _ c.in-At.is c.if-left-eq0.true)  -- returns-2: return Read::Refused(6, at);
       (λ c κs. search rules)  -- read-int-lit-requires: 0 => read_int_lit(s, k),
       (λ c κs. search rules)  -- read-float-lit-requires: 1 => read_float_lit(s, kinds, k),
       (λ c κs. search rules)  -- read-bool-lit-requires: 2 => read_bool_lit(s, k),
@@ -156,7 +156,7 @@ module _ (t : ℕ) where
       (λ c. search expr-arm)  -- returns-8
       (λ c. search expr-arm)  -- returns-9
       (λ c. search expr-arm)  -- returns-10
-      (λ c. arm_pair _ _ _ _ _ c.before.before.before.before.before.before.before.read-case.ensures _ _ c.before.before.before.before.before.a.given.1 c.before.before.before.if1.false _ (unlike 8 _ c.before.before.match2.rest) _ c.before.operators.ensures c.read-pair.ensures)  -- returns-11
+      (λ c. arm_pair _ _ _ _ _ c.read_case-a.ensures _ _ c.in-At.is c.if-left-eq0.false _ (unlike 8 _ c.in_default-b.in_default-b-own.rest) _ c.operators.ensures c.read_pair.ensures)  -- returns-11
 
   abbrev read-neg-calls : read-neg-lts.Claims
   read-neg-calls = (read-expr-below, read-expr.Post, reading.numbers.pass_span.Reads.Asked, reading.numbers.pass_span.Reads.Learnt)
@@ -193,8 +193,8 @@ module _ (t : ℕ) where
       (λ c κs. search rules)  -- pass-span-requires: pass_span(s, m)
       (λ c. search (fields, runs-end))  -- returns-4: fn read_pair(s: &[u8], kinds: &[u8], at: usize, left: usiz ..
 
-pub +read-args-read-call-read-expr-read-neg-read-pair-spec : {M : Type 1} → statement M
-+read-args-read-call-read-expr-read-neg-read-pair-spec =
+pub +read_args_read_call_read_expr_read_neg_read_pair_spec : {M : Type 1} → statement M
++read_args_read_call_read_expr_read_neg_read_pair_spec =
     close μ-read-args μ-read-call μ-read-expr μ-read-neg μ-read-pair
     (λ t. read-args-closed t) (λ t. read-call-closed t) (λ t. read-expr-closed t)
     (λ t. read-neg-closed t) (λ t. read-pair-closed t)

@@ -5,8 +5,8 @@ use borrow.Author.Rules.{rules}
 use Rattle.forms.proofs.exprs.read_bool_lit.Statement.{statement}
 use Rattle.forms.proofs.exprs.read_bool_lit.Tie as tie
 
-pub read-bool-lit-spec : {M : Type 1} → statement M
-read-bool-lit-spec =
+pub read_bool_lit_spec : {M : Type 1} → statement M
+read_bool_lit_spec =
     tie.close (tie.spec
     (λ c κs. search rules)  -- read-case-requires
     (λ c. search rules)  -- enum-known-a

@@ -5,8 +5,8 @@ use borrow.Author.Rules.{rules}
 use Rattle.forms.proofs.exprs.read_const.Statement.{statement}
 use Rattle.forms.proofs.exprs.read_const.Tie as tie
 
-pub read-const-spec : {M : Type 1} → statement M
-read-const-spec =
+pub read_const_spec : {M : Type 1} → statement M
+read_const_spec =
     tie.close (tie.spec
     (λ c κs. search rules)  -- read-case-requires
     (λ c. search rules)  -- enum-known-a

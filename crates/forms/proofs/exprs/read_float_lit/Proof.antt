@@ -5,8 +5,8 @@ use borrow.Author.Rules.{rules}
 use Rattle.forms.proofs.exprs.read_float_lit.Statement.{statement}
 use Rattle.forms.proofs.exprs.read_float_lit.Tie as tie
 
-pub read-float-lit-spec : {M : Type 1} → statement M
-read-float-lit-spec =
+pub read_float_lit_spec : {M : Type 1} → statement M
+read_float_lit_spec =
     tie.close (tie.spec
     (λ c κs. search rules)  -- read-float-requires
     (λ c. search rules)  -- enum-known-a

@@ -5,8 +5,8 @@ use borrow.Author.Rules.{rules}
 use Rattle.forms.proofs.exprs.read_ident.Statement.{statement}
 use Rattle.forms.proofs.exprs.read_ident.Tie as tie
 
-pub read-ident-spec : {M : Type 1} → statement M
-read-ident-spec =
+pub read_ident_spec : {M : Type 1} → statement M
+read_ident_spec =
     tie.close (tie.spec
     (λ c κs. search rules)  -- read-name-requires
     (λ c. search rules)  -- enum-known-a

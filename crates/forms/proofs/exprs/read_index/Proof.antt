@@ -5,8 +5,8 @@ use borrow.Author.Rules.{rules}
 use Rattle.forms.proofs.exprs.read_index.Statement.{statement}
 use Rattle.forms.proofs.exprs.read_index.Tie as tie
 
-pub read-index-spec : {M : Type 1} → statement M
-read-index-spec =
+pub read_index_spec : {M : Type 1} → statement M
+read_index_spec =
     tie.close (tie.spec
     (λ c κs. search rules)  -- read-name-requires
     (λ c. search rules)  -- enum-known-a

@@ -5,8 +5,8 @@ use borrow.Author.Rules.{rules}
 use Rattle.forms.proofs.exprs.read_int_lit.Statement.{statement}
 use Rattle.forms.proofs.exprs.read_int_lit.Tie as tie
 
-pub read-int-lit-spec : {M : Type 1} → statement M
-read-int-lit-spec =
+pub read_int_lit_spec : {M : Type 1} → statement M
+read_int_lit_spec =
     tie.close (tie.spec
     (λ c κs. search rules)  -- read-u64-requires
     (λ c. search rules)  -- enum-known-a

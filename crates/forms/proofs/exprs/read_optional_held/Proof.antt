@@ -4,8 +4,8 @@ use borrow.Author.Rules.{rules}
 use Rattle.forms.proofs.exprs.read_optional_held.Statement.{statement}
 use Rattle.forms.proofs.exprs.read_optional_held.Tie as tie
 
-pub read-optional-held-spec : {M : Type 1} → statement M
-read-optional-held-spec =
+pub read_optional_held_spec : {M : Type 1} → statement M
+read_optional_held_spec =
     tie.close (tie.spec
     (λ c κs. search rules)  -- read-case-requires
     (λ c. search rules)  -- enum-known-a

@@ -5,8 +5,8 @@ use borrow.Author.Rules.{rules}
 use Rattle.forms.proofs.parts.read_ctrl.Statement.{statement}
 use Rattle.forms.proofs.parts.read_ctrl.Tie as tie
 
-pub read-ctrl-spec : {M : Type 1} → statement M
-read-ctrl-spec =
+pub read_ctrl_spec : {M : Type 1} → statement M
+read_ctrl_spec =
     tie.close (tie.spec
     (λ c κs. search rules)  -- read-optional-held-requires
     (λ c. search rules)  -- enum-known-a

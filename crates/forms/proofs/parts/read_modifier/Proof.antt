@@ -4,8 +4,8 @@ use borrow.Author.Rules.{rules}
 use Rattle.forms.proofs.parts.read_modifier.Statement.{statement}
 use Rattle.forms.proofs.parts.read_modifier.Tie as tie
 
-pub read-modifier-spec : {M : Type 1} → statement M
-read-modifier-spec =
+pub read_modifier_spec : {M : Type 1} → statement M
+read_modifier_spec =
     tie.close (tie.spec
     (λ c κs. search rules)  -- read-case-requires
     (λ c. search rules)  -- enum-known-a

@@ -10,14 +10,14 @@ use borrow.Author.Rules.{rules}
 use Rattle.forms.proofs.parts.read_modifiers.Statement.{statement}
 use Rattle.forms.proofs.parts.read_modifiers.Tie as tie
 
-abbrev invariant-loop : tie.invariant-loop
+abbrev invariant-loop : tie.invariant-loop-i
 invariant-loop s kinds at n first k₀ i₀ k i = forget (vec (modifier (texts_of s)) s at) ≡ forget (repeat [] ◌∷◌ (modifier (texts_of s)) i s k)
 
-abbrev decreases-loop : tie.decreases-loop
+abbrev decreases-loop : tie.decreases-loop-i
 decreases-loop s kinds at n first k₀ i₀ k i = i
 
-pub read-modifiers-spec : {M : Type 1} → statement M
-read-modifiers-spec =
+pub read_modifiers_spec : {M : Type 1} → statement M
+read_modifiers_spec =
     tie.close (tie.spec invariant-loop decreases-loop
     (λ c κs. search rules)  -- read-count-requires
     (λ c. search rules)  -- enum-known-a

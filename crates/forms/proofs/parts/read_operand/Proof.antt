@@ -5,8 +5,8 @@ use borrow.Author.Rules.{rules}
 use Rattle.forms.proofs.parts.read_operand.Statement.{statement}
 use Rattle.forms.proofs.parts.read_operand.Tie as tie
 
-pub read-operand-spec : {M : Type 1} → statement M
-read-operand-spec =
+pub read_operand_spec : {M : Type 1} → statement M
+read_operand_spec =
     tie.close (tie.spec
     (λ c κs. search rules)  -- read-name-requires
     (λ c. search rules)  -- enum-known-a

@@ -10,14 +10,14 @@ use borrow.Author.Rules.{rules}
 use Rattle.forms.proofs.parts.read_operands.Statement.{statement}
 use Rattle.forms.proofs.parts.read_operands.Tie as tie
 
-abbrev invariant-loop : tie.invariant-loop
+abbrev invariant-loop : tie.invariant-loop-i
 invariant-loop s kinds at n first k₀ i₀ k i = forget (vec (operand (texts_of s)) s at) ≡ forget (repeat [] ◌∷◌ (operand (texts_of s)) i s k)
 
-abbrev decreases-loop : tie.decreases-loop
+abbrev decreases-loop : tie.decreases-loop-i
 decreases-loop s kinds at n first k₀ i₀ k i = i
 
-pub read-operands-spec : {M : Type 1} → statement M
-read-operands-spec =
+pub read_operands_spec : {M : Type 1} → statement M
+read_operands_spec =
     tie.close (tie.spec invariant-loop decreases-loop
     (λ c κs. search rules)  -- read-count-requires
     (λ c. search rules)  -- enum-known-a

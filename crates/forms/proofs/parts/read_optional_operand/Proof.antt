@@ -4,8 +4,8 @@ use borrow.Author.Rules.{rules}
 use Rattle.forms.proofs.parts.read_optional_operand.Statement.{statement}
 use Rattle.forms.proofs.parts.read_optional_operand.Tie as tie
 
-pub read-optional-operand-spec : {M : Type 1} → statement M
-read-optional-operand-spec =
+pub read_optional_operand_spec : {M : Type 1} → statement M
+read_optional_operand_spec =
     tie.close (tie.spec
     (λ c κs. search rules)  -- read-case-requires
     (λ c. search rules)  -- enum-known-a

@@ -5,8 +5,8 @@ use borrow.Author.Rules.{rules}
 use Rattle.forms.proofs.parts.read_optional_qualifier.Statement.{statement}
 use Rattle.forms.proofs.parts.read_optional_qualifier.Tie as tie
 
-pub read-optional-qualifier-spec : {M : Type 1} → statement M
-read-optional-qualifier-spec =
+pub read_optional_qualifier_spec : {M : Type 1} → statement M
+read_optional_qualifier_spec =
     tie.close (tie.spec
     (λ c κs. search rules)  -- read-case-requires
     (λ c. search rules)  -- enum-known-a

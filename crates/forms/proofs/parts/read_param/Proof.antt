@@ -5,8 +5,8 @@ use borrow.Author.Rules.{rules}
 use Rattle.forms.proofs.parts.read_param.Statement.{statement}
 use Rattle.forms.proofs.parts.read_param.Tie as tie
 
-pub read-param-spec : {M : Type 1} → statement M
-read-param-spec =
+pub read_param_spec : {M : Type 1} → statement M
+read_param_spec =
     tie.close (tie.spec
     (λ c κs. search rules)  -- read-type-requires
     (λ c. search rules)  -- enum-known-a

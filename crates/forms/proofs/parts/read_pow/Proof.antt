@@ -5,8 +5,8 @@ use borrow.Author.Rules.{rules}
 use Rattle.forms.proofs.parts.read_pow.Statement.{statement}
 use Rattle.forms.proofs.parts.read_pow.Tie as tie
 
-pub read-pow-spec : {M : Type 1} → statement M
-read-pow-spec =
+pub read_pow_spec : {M : Type 1} → statement M
+read_pow_spec =
     tie.close (tie.spec
     (λ c κs. search rules)  -- read-held-requires
     (λ c. search rules)  -- enum-known-a

@@ -5,8 +5,8 @@ use borrow.Author.Rules.{rules}
 use Rattle.forms.proofs.parts.read_range.Statement.{statement}
 use Rattle.forms.proofs.parts.read_range.Tie as tie
 
-pub read-range-spec : {M : Type 1} → statement M
-read-range-spec =
+pub read_range_spec : {M : Type 1} → statement M
+read_range_spec =
     tie.close (tie.spec
     (λ c κs. search rules)  -- read-held-requires
     (λ c. search rules)  -- enum-known-a

@@ -5,8 +5,8 @@ use borrow.Author.Rules.{rules}
 use Rattle.forms.proofs.stmts.read_assignment.Statement.{statement}
 use Rattle.forms.proofs.stmts.read_assignment.Tie as tie
 
-pub read-assignment-spec : {M : Type 1} → statement M
-read-assignment-spec =
+pub read_assignment_spec : {M : Type 1} → statement M
+read_assignment_spec =
     tie.close (tie.spec
     (λ c. search rules)  -- add-read-name
     (λ c κs. search rules)  -- read-name-requires

@@ -5,8 +5,8 @@ use borrow.Author.Rules.{rules}
 use Rattle.forms.proofs.stmts.read_barrier.Statement.{statement}
 use Rattle.forms.proofs.stmts.read_barrier.Tie as tie
 
-pub read-barrier-spec : {M : Type 1} → statement M
-read-barrier-spec =
+pub read_barrier_spec : {M : Type 1} → statement M
+read_barrier_spec =
     tie.close (tie.spec
     (λ c. search rules)  -- add-read-operands
     (λ c κs. search rules)  -- read-operands-requires

@@ -5,8 +5,8 @@ use borrow.Author.Rules.{rules}
 use Rattle.forms.proofs.stmts.read_classical_decl.Statement.{statement}
 use Rattle.forms.proofs.stmts.read_classical_decl.Tie as tie
 
-pub read-classical-decl-spec : {M : Type 1} → statement M
-read-classical-decl-spec =
+pub read_classical_decl_spec : {M : Type 1} → statement M
+read_classical_decl_spec =
     tie.close (tie.spec
     (λ c. search rules)  -- add-read-optional-qualifier
     (λ c κs. search rules)  -- read-optional-qualifier-requires

@@ -5,8 +5,8 @@ use borrow.Author.Rules.{rules}
 use Rattle.forms.proofs.stmts.read_delay.Statement.{statement}
 use Rattle.forms.proofs.stmts.read_delay.Tie as tie
 
-pub read-delay-spec : {M : Type 1} → statement M
-read-delay-spec =
+pub read_delay_spec : {M : Type 1} → statement M
+read_delay_spec =
     tie.close (tie.spec
     (λ c. search rules)  -- add-read-held
     (λ c κs. search rules)  -- read-held-requires

@@ -5,8 +5,8 @@ use borrow.Author.Rules.{rules}
 use Rattle.forms.proofs.stmts.read_function_def.Statement.{statement}
 use Rattle.forms.proofs.stmts.read_function_def.Tie as tie
 
-pub read-function-def-spec : {M : Type 1} → statement M
-read-function-def-spec =
+pub read_function_def_spec : {M : Type 1} → statement M
+read_function_def_spec =
     tie.close (tie.spec
     (λ c. search rules)  -- add-read-name
     (λ c κs. search rules)  -- read-name-requires

@@ -5,8 +5,8 @@ use borrow.Author.Rules.{rules}
 use Rattle.forms.proofs.stmts.read_gate_call.Statement.{statement}
 use Rattle.forms.proofs.stmts.read_gate_call.Tie as tie
 
-pub read-gate-call-spec : {M : Type 1} → statement M
-read-gate-call-spec =
+pub read_gate_call_spec : {M : Type 1} → statement M
+read_gate_call_spec =
     tie.close (tie.spec
     (λ c. search rules)  -- add-read-name
     (λ c κs. search rules)  -- read-name-requires

@@ -5,8 +5,8 @@ use borrow.Author.Rules.{rules}
 use Rattle.forms.proofs.stmts.read_include.Statement.{statement}
 use Rattle.forms.proofs.stmts.read_include.Tie as tie
 
-pub read-include-spec : {M : Type 1} → statement M
-read-include-spec =
+pub read_include_spec : {M : Type 1} → statement M
+read_include_spec =
     tie.close (tie.spec
     (λ c. search rules)  -- add-read-path
     (λ c κs. search rules)  -- read-path-requires

@@ -5,8 +5,8 @@ use borrow.Author.Rules.{rules}
 use Rattle.forms.proofs.stmts.read_measure.Statement.{statement}
 use Rattle.forms.proofs.stmts.read_measure.Tie as tie
 
-pub read-measure-spec : {M : Type 1} → statement M
-read-measure-spec =
+pub read_measure_spec : {M : Type 1} → statement M
+read_measure_spec =
     tie.close (tie.spec
     (λ c. search rules)  -- add-read-operand
     (λ c κs. search rules)  -- read-operand-requires

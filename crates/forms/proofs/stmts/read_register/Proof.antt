@@ -5,8 +5,8 @@ use borrow.Author.Rules.{rules}
 use Rattle.forms.proofs.stmts.read_register.Statement.{statement}
 use Rattle.forms.proofs.stmts.read_register.Tie as tie
 
-pub read-register-spec : {M : Type 1} → statement M
-read-register-spec =
+pub read_register_spec : {M : Type 1} → statement M
+read_register_spec =
     tie.close (tie.spec
     (λ c. search rules)  -- add-read-name
     (λ c κs. search rules)  -- read-name-requires

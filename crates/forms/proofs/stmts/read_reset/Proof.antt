@@ -5,8 +5,8 @@ use borrow.Author.Rules.{rules}
 use Rattle.forms.proofs.stmts.read_reset.Statement.{statement}
 use Rattle.forms.proofs.stmts.read_reset.Tie as tie
 
-pub read-reset-spec : {M : Type 1} → statement M
-read-reset-spec =
+pub read_reset_spec : {M : Type 1} → statement M
+read_reset_spec =
     tie.close (tie.spec
     (λ c. search rules)  -- add-read-operand
     (λ c κs. search rules)  -- read-operand-requires

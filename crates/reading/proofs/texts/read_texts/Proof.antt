@@ -21,10 +21,10 @@ read_texts_spec =
     (λ c. search rules)  -- enum-told
     (λ c κs. search rules)  -- into-read-requires
     (λ c. search gathering)  -- returns
-    (λ c. let h = text-inside _ _ _ _ _ c.before.before.before.read_text-a.ensures c.before.a-1.given.1 in search rules)  -- add-x
-    (λ c. let h = text-inside _ _ _ _ _ c.before.before.before.read_text-a.ensures c.before.a-1.given.1 in search rules)  -- sub-x
-    (λ c. let h = text-inside _ _ _ _ _ c.before.before.before.read_text-a.ensures c.before.a-1.given.1 in search rules)  -- part-x-start
-    (λ c. let h = text-inside _ _ _ _ _ c.before.before.before.read_text-a.ensures c.before.a-1.given.1 in search rules)  -- part-x-end
+    (λ c. let h = text-inside _ _ _ _ _ c.read_text-a.ensures c.in-At.is in search rules)  -- add-x
+    (λ c. let h = text-inside _ _ _ _ _ c.read_text-a.ensures c.in-At.is in search rules)  -- sub-x
+    (λ c. let h = text-inside _ _ _ _ _ c.read_text-a.ensures c.in-At.is in search rules)  -- part-x-start
+    (λ c. let h = text-inside _ _ _ _ _ c.read_text-a.ensures c.in-At.is in search rules)  -- part-x-end
     (λ c κs. search rules)  -- checksum-requires
     (λ c κs. search rules)  -- slot-of-requires
     (λ c. search (gathering, rules))  -- array-read-if1
@@ -38,5 +38,5 @@ read_texts_spec =
     (λ c. search rules)  -- array-write-sums
     (λ c. search rules)  -- add-i
     (λ c. search rules)  -- loop-less
-    (λ c. ⊎_elim (λ w. search gathering) (λ w. search gathering) c.if-met-slot-ne0.branch)  -- loop-again
+    (λ c. ⊎_elim (λ w. search gathering) (λ w. search gathering) c.if-met-slot-ne0.branch-raw)  -- loop-again
     (λ c. search gathering))  -- returns-3

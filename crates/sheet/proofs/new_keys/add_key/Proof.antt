@@ -6,8 +6,8 @@ use borrow.Author.Rules.{rules}
 use Rattle.sheet.proofs.new_keys.add_key.Statement.{statement}
 use Rattle.sheet.proofs.new_keys.add_key.Tie as tie
 
-pub add-key-spec : {M : Type 1} → statement M
-add-key-spec =
+pub add_key_spec : {M : Type 1} → statement M
+add_key_spec =
     tie.close (tie.spec
     (λ c κs. search rules)  -- find-requires
     (λ c. search rules)  -- same-length

@@ -4,8 +4,8 @@ use borrow.Author.Rules.{rules}
 use Rattle.sheet.proofs.new_keys.add_measured.Statement.{statement}
 use Rattle.sheet.proofs.new_keys.add_measured.Tie as tie
 
-pub add-measured-spec : {M : Type 1} → statement M
-add-measured-spec =
+pub add_measured_spec : {M : Type 1} → statement M
+add_measured_spec =
     tie.close (tie.spec
     (λ c. search rules)  -- enum-known-slice
     (λ c κs. search rules)  -- add-slice-requires

@@ -6,20 +6,20 @@ use borrow.Author.Rules.{rules}
 use Rattle.sheet.proofs.new_keys.add_range.Statement.{statement}
 use Rattle.sheet.proofs.new_keys.add_range.Tie as tie
 
-abbrev invariant-loop : tie.invariant-loop
+abbrev invariant-loop : tie.invariant-loop-j
 invariant-loop index₀ count x i n head m first c₀ j₀ index c j = Adding index₀ count x i n m index c j
 
-abbrev decreases-loop : tie.decreases-loop
+abbrev decreases-loop : tie.decreases-loop-j
 decreases-loop index₀ count x i n head m first c₀ j₀ index c j = m - j
 
-pub add-range-spec : {M : Type 1} → statement M
-add-range-spec =
+pub add_range_spec : {M : Type 1} → statement M
+add_range_spec =
     tie.close (tie.spec invariant-loop decreases-loop
     (λ c κs. search rules)  -- index-head-requires
     (λ c κs. search rules)  -- at-most-257-requires
     (λ c κs. search rules)  -- find-requires
     (λ c. search adding-start)  -- loop-holds
-    (λ c. let f = c.before.before.before in let i = c.before.before.loop.invariant in omega (arith, near-small _ _ _ _ _ _ _ f.before.before.before.before.before.requires.0 f.find.ensures i.within i.most))  -- add-add-near
+    (λ c. let f = c in let i = c.loop-j.invariant in omega (arith, near-small _ _ _ _ _ _ _ f.requires.0 f.find-first.ensures i.within i.most))  -- add-add-near
     (λ c. search rules)  -- add-add-near-2
     (λ c κs. search rules)  -- add-near-requires
     (λ c. search rules)  -- same-length

@@ -4,8 +4,8 @@ use borrow.Author.Rules.{rules}
 use Rattle.sheet.proofs.new_keys.add_slice.Statement.{statement}
 use Rattle.sheet.proofs.new_keys.add_slice.Tie as tie
 
-pub add-slice-spec : {M : Type 1} → statement M
-add-slice-spec =
+pub add_slice_spec : {M : Type 1} → statement M
+add_slice_spec =
     tie.close (tie.spec
     (λ c. search slice-none)  -- returns
     (λ c κs. search rules)  -- at-most-257-requires

@@ -4,8 +4,8 @@ use borrow.Author.Rules.{rules}
 use Rattle.sheet.proofs.new_keys.add_whole.Statement.{statement}
 use Rattle.sheet.proofs.new_keys.add_whole.Tie as tie
 
-pub add-whole-spec : {M : Type 1} → statement M
-add-whole-spec =
+pub add_whole_spec : {M : Type 1} → statement M
+add_whole_spec =
     tie.close (tie.spec
     (λ c κs. search rules)  -- whole-head-requires
     (λ c κs. search rules)  -- add-key-requires

@@ -6,10 +6,10 @@ use borrow.Author.Rules.{rules}
 use Rattle.sheet.proofs.new_keys.find.Statement.{statement}
 use Rattle.sheet.proofs.new_keys.find.Tie as tie
 
-abbrev invariant-loop : tie.invariant-loop
+abbrev invariant-loop : tie.invariant-loop-k
 invariant-loop index count head i k₀ k = Seeking index count (key_by head i) k
 
-abbrev decreases-loop : tie.decreases-loop
+abbrev decreases-loop : tie.decreases-loop-k
 decreases-loop index count head i k₀ k = count - k
 
 pub find_spec : {M : Type 1} → statement M
