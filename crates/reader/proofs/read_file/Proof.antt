@@ -4,8 +4,8 @@ use borrow.Author.Rules.{rules}
 use Rattle.reader.proofs.read_file.Statement.{statement}
 use Rattle.reader.proofs.read_file.Tie as tie
 
-pub read-file-spec : {M : Type 1} → statement M
-read-file-spec =
+pub read_file_spec : {M : Type 1} → statement M
+read_file_spec =
     tie.close (tie.spec
     (λ c. search whole-file)  -- returns
     (λ c κs. search rules)  -- read-text-count-requires

@@ -4,8 +4,8 @@ use borrow.Author.Rules.{rules}
 use Rattle.reader.proofs.validate.Statement.{statement}
 use Rattle.reader.proofs.validate.Tie as tie
 
-pub validate-spec : {M : Type 1} → statement M
-validate-spec =
+pub validate_spec : {M : Type 1} → statement M
+validate_spec =
     tie.close (tie.spec
     (λ c κs. search rules)  -- read-file-requires
     (λ c. search rules)  -- enum-told

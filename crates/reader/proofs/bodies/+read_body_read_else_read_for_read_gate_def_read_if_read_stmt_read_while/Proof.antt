@@ -55,10 +55,10 @@ abbrev μ-read-stmt : Measures 2 read-stmt-lts.ps ℕ
 abbrev μ-read-while : Measures 2 read-while-lts.ps ℕ
 μ-read-while κs a = 4 * a.1.1.1.0 + 3
 
-abbrev read-body-Inv-loop : read-body-lts.invariant-loop
+abbrev read-body-Inv-loop : read-body-lts.invariant-loop-i
 read-body-Inv-loop s kinds at left n first k₀ i₀ k i = forget (body (stmt (texts_of s) left) s at) ≡ forget (repeat no_stmt more_stmt (stmt (texts_of s) left) i s k)
 
-abbrev read-body-μ-loop : read-body-lts.decreases-loop
+abbrev read-body-μ-loop : read-body-lts.decreases-loop-i
 read-body-μ-loop s kinds at left n first k₀ i₀ k i = i
 
 module _ (t : ℕ) where
@@ -228,8 +228,8 @@ module _ (t : ℕ) where
       (λ c. search rules)  -- enum-known-a: let ReadByte::At(b, _) = a else {
       (λ c. search rules)  -- enum_told: return a.into_read();
       (λ c κs. search rules)  -- into-read-requires
-      (λ c. level-refused (stmt_levels _) _ _ _ _ c.before.before.before.read-case.ensures _ _ c.before.enum_told.given.1 _ c.into-read.ensures)  -- returns
-      (λ c. level-over (stmt_levels _) _ _ _ _ c.before.before.before.before.read-case.ensures _ _ c.before.before.a.given.1 c.if1.true)  -- returns-2: return Read::Refused(6, at);
+      (λ c. level-refused (stmt_levels _) _ _ _ _ c.read_case-a.ensures _ _ c.in_default.is _ c.into_read.ensures)  -- returns
+      (λ c. level-over (stmt_levels _) _ _ _ _ c.read_case-a.ensures _ _ c.in-At.is c.if-left-eq0.true)  -- returns-2: return Read::Refused(6, at);
       (λ c κs. search (rules, case-there))  -- read-include-requires: 0 => stmts::read_include(s, kinds, at),
       (λ c κs. search (rules, case-there))  -- read-register-requires: 1 => stmts::read_register(s, kinds, at),
       (λ c κs. search (rules, case-there))  -- read-register-requires-2: 2 => stmts::read_register(s, kinds, at),
@@ -283,8 +283,8 @@ module _ (t : ℕ) where
       (λ c κs. search rules)  -- pass-span-requires: pass_span(s, l)
       (λ c. search (body-fields, runs-end))  -- returns-3: fn read_while(s: &[u8], kinds: &[u8], at: usize, left: usize ..
 
-pub +read-body-read-else-read-for-read-gate-def-read-if-read-stmt-read-while-spec : {M : Type 1} → statement M
-+read-body-read-else-read-for-read-gate-def-read-if-read-stmt-read-while-spec =
+pub +read_body_read_else_read_for_read_gate_def_read_if_read_stmt_read_while_spec : {M : Type 1} → statement M
++read_body_read_else_read_for_read_gate_def_read_if_read_stmt_read_while_spec =
     close μ-read-body μ-read-else μ-read-for μ-read-gate-def μ-read-if μ-read-stmt μ-read-while
     (λ t. read-body-closed t) (λ t. read-else-closed t) (λ t. read-for-closed t) (λ t. read-gate-def-closed t)
     (λ t. read-if-closed t) (λ t. read-stmt-closed t) (λ t. read-while-closed t)
