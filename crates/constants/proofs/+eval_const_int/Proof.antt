@@ -34,32 +34,32 @@ module _ (t : ℕ) where
   closed : {M : Type 1} → lts.Closed calls here eval-const-int.Post M
   closed =
       lts.spec calls here eval-const-int.Post
-      (λ c. expr_in _ _ _ _ c.before.before.requires.1)  -- shared-slice-read-match: match tree[at] {
+      (λ c. expr_in _ _ _ _ c.requires.1)  -- shared-slice-read-match: match tree[at] {
       (λ c. omega (arith, expr_in))  -- add-u64-at: let n = Int128::from_u64(u64_at(tree, at + 1));
-      (λ c κs. let i = int_lit-inside _ _ _ _ c.before.before.before.requires.1 c.match.keys1 in omega arith)  -- u64-at-requires
+      (λ c κs. let i = int_lit-inside _ _ _ _ c.requires.1 c.in-0.is in omega arith)  -- u64-at-requires
       (λ c κs. search rules)  -- from-u64-requires
-      (λ c. let i = int_lit-inside _ _ _ _ c.before.before.before.before.before.requires.1 c.before.before.match.keys1 in omega arith)  -- add-t16: next: at + 17,
+      (λ c. let i = int_lit-inside _ _ _ _ c.requires.1 c.in-0.is in omega arith)  -- add-t16: next: at + 17,
       (λ c. omega (arith, expr_in))  -- add-eval-const-int: let e = eval_const_int(tree, at + 1, left - 1);
       (λ c. omega (arith, expr_left))  -- sub-eval-const-int
-      (λ c κs. (omega (arith, expr_left), neg_inner _ _ _ _ c.before.before.before.requires.1 c.match.keys2))  -- eval-const-int-requires
+      (λ c κs. (omega (arith, expr_left), neg_inner _ _ _ _ c.requires.1 c.in-7.is))  -- eval-const-int-requires
       (λ c κs. search rules)  -- negate-requires: value: negate(v),
-      (λ c. let i = neg-inside _ _ _ _ c.before.before.before.before.before.before.requires.1 c.before.before.before.match.keys2 _ c.before.before.eval-const-int.ensures.next in omega arith)  -- add-t18: next: e.next + 8,
+      (λ c. let i = neg-inside _ _ _ _ c.requires.1 c.in-7.is _ c.eval_const_int-e.ensures.next in omega arith)  -- add-t18: next: e.next + 8,
       (λ c. omega (arith, expr_in))  -- add-eval-const-int-2: let l = eval_const_int(tree, at + 2, left - 1);
       (λ c. omega (arith, expr_left))  -- sub-eval-const-int-2
-      (λ c κs. (omega (arith, expr_left), pair_lhs _ _ _ _ c.before.before.before.requires.1 (inl c.match.keys3)))  -- eval-const-int-requires-2
+      (λ c κs. (omega (arith, expr_left), pair_lhs _ _ _ _ c.requires.1 (inl c.in-8.is)))  -- eval-const-int-requires-2
       (λ c. omega (arith, expr_left))  -- sub-eval-const-int-3: let r = eval_const_int(tree, l.next, left - 1);
-      (λ c κs. (omega (arith, expr_left), pair_rhs _ _ _ _ c.before.before.before.before.requires.1 (inl c.before.match.keys3) _ c.eval-const-int2.ensures.next))  -- eval-const-int-requires-3
+      (λ c κs. (omega (arith, expr_left), pair_rhs _ _ _ _ c.requires.1 (inl c.in-8.is) _ c.eval_const_int-l.ensures.next))  -- eval-const-int-requires-3
       (λ c. omega (arith, expr_in))  -- add-combine: value: combine(tree[at + 1], a, b),
-      (λ c. let i = expr_in _ _ _ _ (pair_lhs _ _ _ _ c.before.before.before.before.before.before.requires.1 (inl c.before.before.before.match.keys3)) in omega arith)  -- shared-slice-read-combine
+      (λ c. let i = expr_in _ _ _ _ (pair_lhs _ _ _ _ c.requires.1 (inl c.in-8.is)) in omega arith)  -- shared-slice-read-combine
       (λ c κs. search rules)  -- combine-requires
-      (λ c. let i = pair_inside _ _ _ _ c.before.before.before.before.before.before.before.before.requires.1 (inl c.before.before.before.before.before.match.keys3) _ c.before.before.before.before.eval-const-int2.ensures.next _ c.before.before.before.eval-const-int3.ensures.next in omega arith)  -- add-t21: next: r.next + 8,
-      (λ c κs. c.before.before.before.requires.1)  -- skip-expr-requires: next: skip_expr(tree, at, left),
-      (λ c. int-value _ _ _ _ c.before.before.before.before.before.requires.1 c.before.before.match.keys1 _ c.before.u64-at.ensures _ c.from-u64.ensures)  -- returns
-      (λ c. neg_value _ _ _ _ c.before.before.before.before.before.before.requires.1 c.before.before.before.match.keys2 _ c.before.before.eval-const-int.ensures _ c.before.negate.ensures)  -- returns-2
-      (λ c. pair_value _ _ _ _ c.before.before.before.before.before.before.before.before.requires.1 c.before.before.before.before.before.match.keys3 _ c.before.before.before.before.eval-const-int2.ensures _ c.before.before.before.eval-const-int3.ensures _ c.before.combine.ensures)  -- returns-3
-      (λ c. other-value _ _ _ _ c.before.before.before.before.requires.1 (search rules) (search rules) (search rules) _ c.skip-expr.ensures)  -- returns-4
+      (λ c. let i = pair_inside _ _ _ _ c.requires.1 (inl c.in-8.is) _ c.eval_const_int-l.ensures.next _ c.eval_const_int-r.ensures.next in omega arith)  -- add-t21: next: r.next + 8,
+      (λ c κs. c.requires.1)  -- skip-expr-requires: next: skip_expr(tree, at, left),
+      (λ c. int-value _ _ _ _ c.requires.1 c.in-0.is _ c.u64_at.ensures _ c.from_u64-n.ensures)  -- returns
+      (λ c. neg_value _ _ _ _ c.requires.1 c.in-7.is _ c.eval_const_int-e.ensures _ c.negate.ensures)  -- returns-2
+      (λ c. pair_value _ _ _ _ c.requires.1 c.in-8.is _ c.eval_const_int-l.ensures _ c.eval_const_int-r.ensures _ c.combine.ensures)  -- returns-3
+      (λ c. other-value _ _ _ _ c.requires.1 (search rules) (search rules) (search rules) _ c.skip_expr.ensures)  -- returns-4
 
-pub +eval-const-int-spec : {M : Type 1} → statement M
-+eval-const-int-spec =
+pub +eval_const_int_spec : {M : Type 1} → statement M
++eval_const_int_spec =
     close μ-left
     (λ t. closed t)

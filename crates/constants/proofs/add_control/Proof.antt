@@ -6,15 +6,15 @@ use Rattle.constants.proofs.Modifiers.{counted-one, counted-more}
 use Rattle.constants.proofs.add_control.Statement.{statement}
 use Rattle.constants.proofs.add_control.Tie as tie
 
-pub add-control-spec : {M : Type 1} → statement M
-add-control-spec =
+pub add_control_spec : {M : Type 1} → statement M
+add_control_spec =
     tie.close (tie.spec
     (λ c. search option_in)  -- shared-slice-read-if1
     (λ c κs. search rules)  -- add-count-requires
-    (λ c. let i = option_in _ _ _ c.before.before.before.before.requires in omega arith)  -- add-t11
-    (λ c. counted-one _ _ _ _ c.before.before.before.before.requires c.before.if1.true _ c.add-count.ensures)  -- returns
-    (λ c. let i = option_in _ _ _ c.before.before.before.requires in omega arith)  -- add-eval-const-int
-    (λ c κs. option-held _ _ _ c.before.before.before.requires c.if1.false)  -- eval-const-int-requires
+    (λ c. let i = option_in _ _ _ c.requires in omega arith)  -- add-t11
+    (λ c. counted-one _ _ _ _ c.requires c.if-tree-at-eq0.true _ c.add_count.ensures)  -- returns
+    (λ c. let i = option_in _ _ _ c.requires in omega arith)  -- add-eval-const-int
+    (λ c κs. option-held _ _ _ c.requires c.if-tree-at-eq0.false)  -- eval-const-int-requires
     (λ c κs. search rules)  -- count-of-requires
     (λ c κs. search rules)  -- add-count-requires-2
-    (λ c. counted-more _ _ _ _ c.before.before.before.before.before.before.requires c.before.before.before.if1.false _ c.before.before.eval-const-int.ensures _ c.before.count_of.ensures _ c.add-count2.ensures))  -- returns-2
+    (λ c. counted-more _ _ _ _ c.requires c.if-tree-at-eq0.false _ c.eval_const_int-e.ensures _ c.count_of.ensures _ c.add_count-2.ensures))  -- returns-2

@@ -4,8 +4,8 @@ use borrow.Author.Rules.{rules}
 use Rattle.constants.proofs.add_count.Statement.{statement}
 use Rattle.constants.proofs.add_count.Tie as tie
 
-pub add-count-spec : {M : Type 1} → statement M
-add-count-spec =
+pub add_count_spec : {M : Type 1} → statement M
+add_count_spec =
     tie.close (tie.spec
     (λ c. search rules)  -- enum-known-total
     (λ c. search rules)  -- enum-told

@@ -5,13 +5,13 @@ use Rattle.constants.proofs.Modifiers.{control_count_lem, control-inside, added-
 use Rattle.constants.proofs.add_modifier.Statement.{statement}
 use Rattle.constants.proofs.add_modifier.Tie as tie
 
-pub add-modifier-spec : {M : Type 1} → statement M
-add-modifier-spec =
+pub add_modifier_spec : {M : Type 1} → statement M
+add_modifier_spec =
     tie.close (tie.spec
     (λ c. search modifier_in)  -- shared-slice-read-if1
-    (λ c. let i = modifier_in _ _ _ c.before.before.before.requires in omega arith)  -- add-add-control
-    (λ c κs. control_count_lem _ _ _ c.before.before.before.requires c.if1.true)  -- add-control-requires
-    (λ c. let i = control-inside _ _ _ c.before.before.before.before.before.requires c.before.before.if1.true _ c.before.add-control.ensures.next in omega arith)  -- add-t9
-    (λ c. added-control _ _ _ _ c.before.before.before.before.before.requires c.before.before.if1.true _ c.before.add-control.ensures)  -- returns
-    (λ c κs. c.before.before.before.requires)  -- skip-modifier-requires
-    (λ c. added_none _ _ _ _ c.before.before.before.before.requires c.before.if1.false _ c.skip-modifier.ensures))  -- returns-2
+    (λ c. let i = modifier_in _ _ _ c.requires in omega arith)  -- add-add-control
+    (λ c κs. control_count_lem _ _ _ c.requires c.if-tree-at-lt2.true)  -- add-control-requires
+    (λ c. let i = control-inside _ _ _ c.requires c.if-tree-at-lt2.true _ c.add_control-c.ensures.next in omega arith)  -- add-t9
+    (λ c. added-control _ _ _ _ c.requires c.if-tree-at-lt2.true _ c.add_control-c.ensures)  -- returns
+    (λ c κs. c.requires)  -- skip-modifier-requires
+    (λ c. added_none _ _ _ _ c.requires c.if-tree-at-lt2.false _ c.skip_modifier.ensures))  -- returns-2

@@ -4,8 +4,8 @@ use borrow.Author.Rules.{rules}
 use Rattle.constants.proofs.combine.Statement.{statement}
 use Rattle.constants.proofs.combine.Tie as tie
 
-pub combine-spec : {M : Type 1} → statement M
-combine-spec =
+pub combine_spec : {M : Type 1} → statement M
+combine_spec =
     tie.close (tie.spec
     (λ c. search rules)  -- enum-known-lhs
     (λ c. search rules)  -- enum-told

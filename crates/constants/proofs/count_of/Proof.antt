@@ -4,8 +4,8 @@ use borrow.Author.Rules.{rules}
 use Rattle.constants.proofs.count_of.Statement.{statement}
 use Rattle.constants.proofs.count_of.Tie as tie
 
-pub count-of-spec : {M : Type 1} → statement M
-count-of-spec =
+pub count_of_spec : {M : Type 1} → statement M
+count_of_spec =
     tie.close (tie.spec
     (λ c. search rules)  -- enum-known-v
     (λ c. search rules)  -- enum-told

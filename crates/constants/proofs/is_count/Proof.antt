@@ -4,8 +4,8 @@ use borrow.Author.Rules.{rules}
 use Rattle.constants.proofs.is_count.Statement.{statement}
 use Rattle.constants.proofs.is_count.Tie as tie
 
-pub is-count-spec : {M : Type 1} → statement M
-is-count-spec =
+pub is_count_spec : {M : Type 1} → statement M
+is_count_spec =
     tie.close (tie.spec
     (λ c. search rules)  -- enum-known-z
     (λ c. search rules)  -- enum-told

@@ -4,8 +4,8 @@ use borrow.Author.Rules.{rules}
 use Rattle.constants.proofs.negate.Statement.{statement}
 use Rattle.constants.proofs.negate.Tie as tie
 
-pub negate-spec : {M : Type 1} → statement M
-negate-spec =
+pub negate_spec : {M : Type 1} → statement M
+negate_spec =
     tie.close (tie.spec
     (λ c. search rules)  -- enum-known-v
     (λ c. search rules)  -- enum-told

@@ -4,8 +4,8 @@ use borrow.Author.Rules.{rules}
 use Rattle.constants.proofs.operate.Statement.{statement}
 use Rattle.constants.proofs.operate.Tie as tie
 
-pub operate-spec : {M : Type 1} → statement M
-operate-spec =
+pub operate_spec : {M : Type 1} → statement M
+operate_spec =
     tie.close (tie.spec
     (λ c κs. search rules)  -- checked-sub-requires
     (λ c κs. search rules)  -- checked-mul-requires

@@ -6,20 +6,17 @@ use Rattle.lines.proofs.first_line.Tie as tie
 
 returns : tie.Need-returns
 returns c =
-    let u = c.before.before.before.before.before.before.before in
-    let v = u.before.before.before.before.before.before.before.before.before in
-    first_said v.before.before.before.before.before.before.before.before.args.errors v.before.before.before.before.before.before.before.before.args.warnings v.before.before.before.before.copy.ensures v.number.ensures u.before.before.before.before.copy2.ensures u.number2.ensures c.before.before.copy3.ensures
+    let u = c in
+    let v = u in
+    first_said v.args.errors v.args.warnings v.copy-a.ensures v.number-b.ensures u.copy-c.ensures u.number-d.ensures c.copy.ensures
 
-pub first-line-spec : {M : Type 1} → statement M
-first-line-spec =
+pub first_line_spec : {M : Type 1} → statement M
+first_line_spec =
     tie.close (tie.spec
-    (λ c. search rules)  -- slice-aggregate-copy
+    (λ c κs. search rules)  -- copy-a-requires
+    (λ c κs. search rules)  -- number-b-requires
+    (λ c κs. search rules)  -- copy-c-requires
+    (λ c κs. search rules)  -- number-d-requires
     (λ c κs. search rules)  -- copy-requires
-    (λ c κs. search rules)  -- number-requires
-    (λ c. search rules)  -- slice-aggregate-copy-2
-    (λ c κs. search rules)  -- copy-requires-2
-    (λ c κs. search rules)  -- number-requires-2
-    (λ c. search rules)  -- slice-aggregate-copy-3
-    (λ c κs. search rules)  -- copy-requires-3
-    (λ c. search rules)  -- same-length
+    (λ c. search rules)  -- shape_of-out
     returns)

@@ -6,16 +6,16 @@ use Rattle.lines.proofs.message_line.Tie as tie
 
 line-requires : tie.Need-line-requires
 line-requires c κs =
-    let s = c.before.before.before.before.before.before in
-    (s.requires.0, s.requires.1, s.requires.2, message-named s.args.message c.message-plan.ensures s.requires.2 s.requires.3)
+    let s = c in
+    (s.requires.0, s.requires.1, s.requires.2, message-named s.args.message c.message_plan.ensures s.requires.2 s.requires.3)
 
 returns : tie.Need-returns
 returns c =
-    let a = c.before.before.before.before.before.before.before.before.before.args in
-    message-said _ a.severity a.span a.message c.before.before.before.before.letter-of.ensures c.before.before.before.message-plan.ensures c.before.before.line.ensures
+    let a = c.args in
+    message-said _ a.severity a.span a.message c.letter_of.ensures c.message_plan.ensures c.line.ensures
 
-pub message-line-spec : {M : Type 1} → statement M
-message-line-spec =
+pub message_line_spec : {M : Type 1} → statement M
+message_line_spec =
     tie.close (tie.spec
     (λ c κs. search rules)  -- letter-of-requires
     (λ c κs. search rules)  -- message-plan-requires

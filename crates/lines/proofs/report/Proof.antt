@@ -7,29 +7,29 @@ use Rattle.lines.proofs.Lines.{reported, report_past}
 use Rattle.lines.proofs.report.Statement.{statement}
 use Rattle.lines.proofs.report.Tie as tie
 
-message-line-requires : tie.Need-message-line-requires
+message-line-requires : tie.Need-message_line-a-requires
 unfolding phrases all_words phrase_places
 message-line-requires c κs =
-    let s = c.before.before.before.before.before.before.before.before.requires in
+    let s = c.requires in
     (omega (arith, s.2.few, s.2.short), record { words = refl; starting = refl }, s.0, s.1.named)
 
-note-line-requires : tie.Need-note-line-requires
+note-line-requires : tie.Need-note_line-b-requires
 unfolding phrases all_words phrase_places
 note-line-requires c κs =
-    let s = c.before.before.before.before.before.before.before.before.before.before.before.before.before.before.requires in
-    (omega (arith, s.2.few, s.2.short, c.before.before.before.before.before.message-line.ensures.within), record { words = refl; starting = refl }, s.0, s.1.noted)
+    let s = c.requires in
+    (omega (arith, s.2.few, s.2.short, c.message_line-a.ensures.within), record { words = refl; starting = refl }, s.0, s.1.noted)
 
-returns-2 : tie.Need-returns-2
+returns-2 : tie.Need-returns
 returns-2 c =
-    let s = c.before.before.before.before.before.before.before.before.before.before.before.before.before.before.before.before.before.before in
-    reported s.args.sink _ s.args.d s.requires.2 (omega (arith, c.before.before.before.before.before.before.before.before.before.before.before.before.before.before.if1.false)) c.before.before.before.before.before.before.before.before.before.message-line.ensures c.before.before.before.note-line.ensures c.counted.ensures
+    let s = c in
+    reported s.args.sink _ s.args.d s.requires.2 (omega (arith, c.if-errors-warnings-gt256.false)) c.message_line-a.ensures c.note_line-b.ensures c.counted.ensures
 
-pub report-spec : {M : Type 1} → statement M
-report-spec =
+pub report_spec : {M : Type 1} → statement M
+report_spec =
     tie.close (tie.spec
     (λ c. search rules)  -- cast-n
     (λ c. search rules)  -- add-if1
-    (λ c. let s = c.before.before.before.before in report_past _ s.args.d s.args.sink _ s.requires.2 c.if1.true)  -- returns
+    (λ c. let s = c in report_past _ s.args.d s.args.sink _ s.requires.2 c.if-errors-warnings-gt256.true)  -- returns
     (λ c. search rules)  -- slice-aggregate-message-line
     message-line-requires
     (λ c. search rules)  -- slice-aggregate-note-line

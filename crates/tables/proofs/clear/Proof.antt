@@ -6,10 +6,10 @@ use Rattle.tables.proofs.Stores.{Clearing, clearing_start, clearing_more, cleari
 use Rattle.tables.proofs.clear.Statement.{statement}
 use Rattle.tables.proofs.clear.Tie as tie
 
-abbrev invariant-loop : tie.invariant-loop
+abbrev invariant-loop : tie.invariant-loop-i
 invariant-loop scratch₀ i₀ scratch i = Clearing scratch₀ scratch i
 
-abbrev decreases-loop : tie.decreases-loop
+abbrev decreases-loop : tie.decreases-loop-i
 decreases-loop scratch₀ i₀ scratch i = 65536 - i
 
 pub clear_spec : {M : Type 1} → statement M
@@ -19,6 +19,6 @@ clear_spec =
     (λ c. search rules)  -- slice-write-scratch
     (λ c. search rules)  -- add-i
     (λ c. search rules)  -- loop-less
-    (λ c. clearing_more c.before.loop.invariant (omega arith) (omega arith))  -- loop-again
+    (λ c. clearing_more c.loop-i.invariant (omega arith) (omega arith))  -- loop-again
     (λ c. search rules)  -- same-length
-    (λ c. clearing_end c.before.loop.invariant (omega arith)))  -- returns
+    (λ c. clearing_end c.loop-i.invariant (omega arith)))  -- returns

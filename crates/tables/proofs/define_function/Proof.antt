@@ -5,8 +5,8 @@ use Rattle.tables.proofs.Stores.{function_typed}
 use Rattle.tables.proofs.define_function.Statement.{statement}
 use Rattle.tables.proofs.define_function.Tie as tie
 
-pub define-function-spec : {M : Type 1} → statement M
-define-function-spec =
+pub define_function_spec : {M : Type 1} → statement M
+define_function_spec =
     tie.close (tie.spec
     (λ c. search rules)  -- mul-entry
     (λ c. search rules)  -- add-entry

@@ -4,8 +4,8 @@ use Rattle.tables.proofs.Becoming.{gate-defined}
 use Rattle.tables.proofs.define_gate.Statement.{statement}
 use Rattle.tables.proofs.define_gate.Tie as tie
 
-pub define-gate-spec : {M : Type 1} → statement M
-define-gate-spec =
+pub define_gate_spec : {M : Type 1} → statement M
+define_gate_spec =
     tie.close (tie.spec
     (λ c. search rules)  -- mul-store-gate
     (λ c. search rules)  -- add-store-gate

@@ -6,10 +6,10 @@ use Rattle.tables.proofs.Becoming.{Emptying, emptying_start, emptying_more, ente
 use Rattle.tables.proofs.enter.Statement.{statement}
 use Rattle.tables.proofs.enter.Tie as tie
 
-abbrev invariant-loop : tie.invariant-loop
+abbrev invariant-loop : tie.invariant-loop-i
 invariant-loop scratch₀ depth at i₀ scratch i = Emptying scratch₀ (depth * 4608) 256 scratch i
 
-abbrev decreases-loop : tie.decreases-loop
+abbrev decreases-loop : tie.decreases-loop-i
 decreases-loop scratch₀ depth at i₀ scratch i = 256 - i
 
 pub enter_spec : {M : Type 1} → statement M
@@ -21,6 +21,6 @@ enter_spec =
     (λ c. search rules)  -- slice-write-scratch
     (λ c. search rules)  -- add-i
     (λ c. search rules)  -- loop-less
-    (λ c. emptying_more c.before.loop.invariant (omega arith) (omega arith))  -- loop-again
+    (λ c. emptying_more c.loop-i.invariant (omega arith) (omega arith))  -- loop-again
     (λ c. search rules)  -- same-length
-    (λ c. entered (omega arith) (omega arith) c.before.loop.invariant))  -- returns
+    (λ c. entered (omega arith) (omega arith) c.loop-i.invariant))  -- returns

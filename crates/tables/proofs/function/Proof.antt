@@ -4,8 +4,8 @@ use Rattle.tables.proofs.Views.{function_none, function_some}
 use Rattle.tables.proofs.function.Statement.{statement}
 use Rattle.tables.proofs.function.Tie as tie
 
-pub function-spec : {M : Type 1} → statement M
-function-spec =
+pub function_spec : {M : Type 1} → statement M
+function_spec =
     tie.close (tie.spec
     (λ c. search rules)  -- mul-at
     (λ c. search rules)  -- add-at

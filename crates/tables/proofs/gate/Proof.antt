@@ -4,8 +4,8 @@ use Rattle.tables.proofs.Views.{gate-none, gate-some}
 use Rattle.tables.proofs.gate.Statement.{statement}
 use Rattle.tables.proofs.gate.Tie as tie
 
-pub gate-spec : {M : Type 1} → statement M
-gate-spec =
+pub gate_spec : {M : Type 1} → statement M
+gate_spec =
     tie.close (tie.spec
     (λ c. search rules)  -- mul-at
     (λ c. search rules)  -- add-at

@@ -5,10 +5,10 @@ use Rattle.tables.proofs.Views.{Seeking, seeking-start, seeking-found, seeking-m
 use Rattle.tables.proofs.get.Statement.{statement}
 use Rattle.tables.proofs.get.Tie as tie
 
-abbrev invariant-loop : tie.invariant-loop
+abbrev invariant-loop : tie.invariant-loop-left
 invariant-loop scratch depth x left₀ left = Seeking scratch depth x left
 
-abbrev decreases-loop : tie.decreases-loop
+abbrev decreases-loop : tie.decreases-loop-left
 decreases-loop scratch depth x left₀ left = left
 
 pub get_spec : {M : Type 1} → statement M
@@ -22,4 +22,4 @@ get_spec =
     (λ c. search rules)  -- enum-told
     (λ c. search rules)  -- loop-less
     (λ c. search seeking-more)  -- loop-again
-    (λ c. seeking-end c.before.loop.invariant (omega arith)))  -- returns-2
+    (λ c. seeking-end c.loop-left.invariant (omega arith)))  -- returns-2

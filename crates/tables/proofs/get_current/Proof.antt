@@ -4,8 +4,8 @@ use Rattle.tables.proofs.Views.{symbol-none, current_at}
 use Rattle.tables.proofs.get_current.Statement.{statement}
 use Rattle.tables.proofs.get_current.Tie as tie
 
-pub get-current-spec : {M : Type 1} → statement M
-get-current-spec =
+pub get_current_spec : {M : Type 1} → statement M
+get_current_spec =
     tie.close (tie.spec
     (λ c. search rules)  -- sub-level
     (λ c. search rules)  -- mul-if1

@@ -4,8 +4,8 @@ use Rattle.tables.proofs.Becoming.{inserted}
 use Rattle.tables.proofs.insert.Statement.{statement}
 use Rattle.tables.proofs.insert.Tie as tie
 
-pub insert-spec : {M : Type 1} → statement M
-insert-spec =
+pub insert_spec : {M : Type 1} → statement M
+insert_spec =
     tie.close (tie.spec
     (λ c. search rules)  -- sub-store-symbol
     (λ c κs. search rules)  -- store-symbol-requires

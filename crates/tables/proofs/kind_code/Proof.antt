@@ -4,8 +4,8 @@ use Rattle.tables.proofs.Codes.{code_classical, code_const}
 use Rattle.tables.proofs.kind_code.Statement.{statement}
 use Rattle.tables.proofs.kind_code.Tie as tie
 
-pub kind-code-spec : {M : Type 1} → statement M
-kind-code-spec =
+pub kind_code_spec : {M : Type 1} → statement M
+kind_code_spec =
     tie.close (tie.spec
     (λ c. search rules)  -- enum-told
     (λ c. search rules)  -- enum-told-2

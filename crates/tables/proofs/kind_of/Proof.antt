@@ -4,8 +4,8 @@ use Rattle.tables.proofs.Codes.{by_code}
 use Rattle.tables.proofs.kind_of.Statement.{statement}
 use Rattle.tables.proofs.kind_of.Tie as tie
 
-pub kind-of-spec : {M : Type 1} → statement M
-kind-of-spec =
+pub kind_of_spec : {M : Type 1} → statement M
+kind_of_spec =
     tie.close (tie.spec
     (λ c. search by_code)  -- returns
     (λ c. search by_code)  -- returns-2

@@ -4,8 +4,8 @@ use Rattle.tables.proofs.Views.{size_none, size-some}
 use Rattle.tables.proofs.size_at.Statement.{statement}
 use Rattle.tables.proofs.size_at.Tie as tie
 
-pub size-at-spec : {M : Type 1} → statement M
-size-at-spec =
+pub size_at_spec : {M : Type 1} → statement M
+size_at_spec =
     tie.close (tie.spec
     (λ c. search rules)  -- shared-slice-read-if1
     (λ c. search size_none)  -- returns

@@ -4,8 +4,8 @@ use borrow.Author.Rules.{rules}
 use Rattle.tables.proofs.size_of.Statement.{statement}
 use Rattle.tables.proofs.size_of.Tie as tie
 
-pub size-of-spec : {M : Type 1} → statement M
-size-of-spec =
+pub size_of_spec : {M : Type 1} → statement M
+size_of_spec =
     tie.close (tie.spec
     (λ c κs. search rules)  -- get-requires
     (λ c. search rules)  -- enum-known-symbol

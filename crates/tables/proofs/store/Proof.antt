@@ -5,10 +5,10 @@ use Rattle.tables.proofs.Bytes.{Storing, storing-start, storing-more, storing-en
 use Rattle.tables.proofs.store.Statement.{statement}
 use Rattle.tables.proofs.store.Tie as tie
 
-abbrev invariant-loop : tie.invariant-loop
+abbrev invariant-loop : tie.invariant-loop-i
 invariant-loop s₀ at width v rest₀ i₀ s rest i = Storing s₀ at width v s rest i
 
-abbrev decreases-loop : tie.decreases-loop
+abbrev decreases-loop : tie.decreases-loop-i
 decreases-loop s₀ at width v rest₀ i₀ s rest i = i
 
 pub store_spec : {M : Type 1} → statement M
@@ -20,6 +20,6 @@ store_spec =
     (λ c. search rules)  -- add-s
     (λ c. search rules)  -- slice-write-s
     (λ c. search rules)  -- loop-less
-    (λ c. storing-more c.before.loop.invariant (omega arith))  -- loop-again
+    (λ c. storing-more c.loop-i.invariant (omega arith))  -- loop-again
     (λ c. search rules)  -- same-length
-    (λ c. storing-end c.before.loop.invariant (omega arith)))  -- returns
+    (λ c. storing-end c.loop-i.invariant (omega arith)))  -- returns

@@ -4,8 +4,8 @@ use Rattle.tables.proofs.Stores.{function_stored}
 use Rattle.tables.proofs.store_function.Statement.{statement}
 use Rattle.tables.proofs.store_function.Tie as tie
 
-pub store-function-spec : {M : Type 1} → statement M
-store-function-spec =
+pub store_function_spec : {M : Type 1} → statement M
+store_function_spec =
     tie.close (tie.spec
     (λ c κs. search rules)  -- put-requires
     (λ c. search rules)  -- add-put

@@ -4,8 +4,8 @@ use Rattle.tables.proofs.Stores.{gate-stored}
 use Rattle.tables.proofs.store_gate.Statement.{statement}
 use Rattle.tables.proofs.store_gate.Tie as tie
 
-pub store-gate-spec : {M : Type 1} → statement M
-store-gate-spec =
+pub store_gate_spec : {M : Type 1} → statement M
+store_gate_spec =
     tie.close (tie.spec
     (λ c κs. search rules)  -- put-requires
     (λ c. search rules)  -- add-put

@@ -4,8 +4,8 @@ use Rattle.tables.proofs.Stores.{size-stored, no_size_stored, size_fits, no_size
 use Rattle.tables.proofs.store_size.Statement.{statement}
 use Rattle.tables.proofs.store_size.Tie as tie
 
-pub store-size-spec : {M : Type 1} → statement M
-store-size-spec =
+pub store_size_spec : {M : Type 1} → statement M
+store_size_spec =
     tie.close (tie.spec
     (λ c. search rules)  -- enum-known-size
     (λ c κs. search rules)  -- put-requires

@@ -5,8 +5,8 @@ use Rattle.tables.proofs.Stores.{span-stored}
 use Rattle.tables.proofs.store_span.Statement.{statement}
 use Rattle.tables.proofs.store_span.Tie as tie
 
-pub store-span-spec : {M : Type 1} → statement M
-store-span-spec =
+pub store_span_spec : {M : Type 1} → statement M
+store_span_spec =
     tie.close (tie.spec
     (λ c. search rules)  -- cast-store
     (λ c κs. search rules)  -- store-requires

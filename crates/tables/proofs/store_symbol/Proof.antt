@@ -4,8 +4,8 @@ use Rattle.tables.proofs.Stores.{symbol-stored}
 use Rattle.tables.proofs.store_symbol.Statement.{statement}
 use Rattle.tables.proofs.store_symbol.Tie as tie
 
-pub store-symbol-spec : {M : Type 1} → statement M
-store-symbol-spec =
+pub store_symbol_spec : {M : Type 1} → statement M
+store_symbol_spec =
     tie.close (tie.spec
     (λ c. search rules)  -- mul-base
     (λ c. search rules)  -- add-at

@@ -6,14 +6,14 @@ use Rattle.tables.proofs.Stores.{Copying, copying_start, copying_more, copying_e
 use Rattle.tables.proofs.store_types.Statement.{statement}
 use Rattle.tables.proofs.store_types.Tie as tie
 
-abbrev invariant-loop : tie.invariant-loop
+abbrev invariant-loop : tie.invariant-loop-i
 invariant-loop s₀ to tree at count i₀ s i = Copying s₀ to tree at count s i
 
-abbrev decreases-loop : tie.decreases-loop
+abbrev decreases-loop : tie.decreases-loop-i
 decreases-loop s₀ to tree at count i₀ s i = count - i
 
-pub store-types-spec : {M : Type 1} → statement M
-store-types-spec =
+pub store_types_spec : {M : Type 1} → statement M
+store_types_spec =
     tie.close (tie.spec invariant-loop decreases-loop
     (λ c. copying_start _ _ _ _ _)  -- loop-holds
     (λ c. search rules)  -- mul-s
@@ -23,6 +23,6 @@ store-types-spec =
     (λ c. search rules)  -- slice-write-s
     (λ c. search rules)  -- add-i
     (λ c. search rules)  -- loop-less
-    (λ c. copying_more c.before.before.loop.invariant (omega arith))  -- loop-again
+    (λ c. copying_more c.loop-i.invariant (omega arith))  -- loop-again
     (λ c. search rules)  -- same-length
-    (λ c. copying_end c.before.loop.invariant (omega arith)))  -- returns
+    (λ c. copying_end c.loop-i.invariant (omega arith)))  -- returns

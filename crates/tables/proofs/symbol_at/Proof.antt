@@ -8,14 +8,14 @@ use Rattle.tables.proofs.Views.{symbol-none, symbol-part}
 use Rattle.tables.proofs.symbol_at.Statement.{statement}
 use Rattle.tables.proofs.symbol_at.Tie as tie
 
-returns-2 : tie.Need-returns-2
+returns-2 : tie.Need-returns
 returns-2 c =
-    let a = c.before.before.before.before.before.before.before.args in
+    let a = c.args in
     let p : ℕ = symbol_place a.level a.x in
-    symbol-part _ a.level a.x (record { kind = c.before.before.kind-of.result; size = c.before.size-at.result; decl_span = c.span-at.result }) _ c.before.before.before.before.if1.false c.before.before.kind-of.ensures c.before.size-at.ensures c.span-at.ensures (p + 17 - p) refl (omega arith)
+    symbol-part _ a.level a.x (record { kind = c.kind_of-kind.result; size = c.size_at-size.result; decl_span = c.span_at-decl_span.result }) _ c.if-code-eq0.false c.kind_of-kind.ensures c.size_at-size.ensures c.span_at-decl_span.ensures (p + 17 - p) refl (omega arith)
 
-pub symbol-at-spec : {M : Type 1} → statement M
-symbol-at-spec =
+pub symbol_at_spec : {M : Type 1} → statement M
+symbol_at_spec =
     tie.close (tie.spec
     (λ c. search rules)  -- mul-base
     (λ c. search rules)  -- add-code

@@ -4,8 +4,8 @@ use Rattle.tables.proofs.Codes.{type-other}
 use Rattle.tables.proofs.type_of.Statement.{statement}
 use Rattle.tables.proofs.type_of.Tie as tie
 
-pub type-of-spec : {M : Type 1} → statement M
-type-of-spec =
+pub type_of_spec : {M : Type 1} → statement M
+type_of_spec =
     tie.close (tie.spec
     (λ c. search rules)  -- returns
     (λ c. search rules)  -- returns-2

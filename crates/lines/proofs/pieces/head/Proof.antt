@@ -8,34 +8,34 @@ use Rattle.lines.proofs.Numbers.{end-past, start_fits, start-past, head-inside, 
 use Rattle.lines.proofs.pieces.head.Statement.{statement}
 use Rattle.lines.proofs.pieces.head.Tie as tie
 
-digits-requires : tie.Need-digits-requires
-digits-requires c κs = (omega (arith, decimal-small c.before.before.before.args.span.end (search rules)), omega arith, refl)
+digits-requires : tie.Need-digits-e-requires
+digits-requires c κs = (omega (arith, decimal-small c.args.span.end (search rules)), omega arith, refl)
 
-sub-b : tie.Need-overflow-sub-b
-sub-b c = let a = c.before.before.before.before.args in omega (arith, end-past a.span a.letter (search rules) (search rules) c.digits.ensures)
+sub-b : tie.Need-overflow_sub-b
+sub-b c = let a = c.args in omega (arith, end-past a.span a.letter (search rules) (search rules) c.digits-e.ensures)
 
-sub-digits : tie.Need-overflow-sub-digits
-sub-digits c = let a = c.before.before.before.before.before.args in omega (arith, end-past a.span a.letter (search rules) (search rules) c.before.digits.ensures)
+sub-digits : tie.Need-overflow_sub-e
+sub-digits c = let a = c.args in omega (arith, end-past a.span a.letter (search rules) (search rules) c.digits-e.ensures)
 
-digits-requires-2 : tie.Need-digits-requires-2
+digits-requires-2 : tie.Need-digits-s-requires
 digits-requires-2 c κs =
-    let a = c.before.before.before.before.before.before.args in
-    start_fits a.span a.letter (search rules) (search rules) c.before.before.digits.ensures
+    let a = c.args in
+    start_fits a.span a.letter (search rules) (search rules) c.digits-e.ensures
 
-past : (c : tie.After-digits2) → 2 ≤ c.digits2.result
+past : (c : tie.After-digits-s) → 2 ≤ c.digits-s.result
 past c =
-    let a = c.before.before.before.before.before.before.before.args in
-    start-past a.span a.letter (search rules) (search rules) c.before.before.before.digits.ensures c.digits2.ensures
+    let a = c.args in
+    start-past a.span a.letter (search rules) (search rules) c.digits-e.ensures c.digits-s.ensures
 
-part-copy-end : tie.Need-slice-bounds-copy-end
+part-copy-end : tie.Need-slice_bounds-copy-end
 part-copy-end c =
-    let a = c.before.before.before.before.before.before.before.before.before.args in
-    head-inside a.span a.letter (search rules) (search rules) c.before.before.before.before.before.digits.ensures c.before.before.digits2.ensures
+    let a = c.args in
+    head-inside a.span a.letter (search rules) (search rules) c.digits-e.ensures c.digits-s.ensures
 
 returns : tie.Need-returns
 returns c =
-    let a = c.before.before.before.before.before.before.before.before.before.before.before.before.before.args in
-    head-said a.span a.letter (search rules) (search rules) c.before.before.before.before.before.before.before.before.before.digits.ensures c.before.before.before.before.before.before.digits2.ensures c.before.before.copy.ensures
+    let a = c.args in
+    head-said a.span a.letter (search rules) (search rules) c.digits-e.ensures c.digits-s.ensures c.copy.ensures
 
 pub head_spec : {M : Type 1} → statement M
 head_spec =

@@ -5,8 +5,8 @@ use Rattle.lines.proofs.Parts.{name-read}
 use Rattle.lines.proofs.pieces.name_of.Statement.{statement}
 use Rattle.lines.proofs.pieces.name_of.Tie as tie
 
-pub name-of-spec : {M : Type 1} → statement M
-name-of-spec =
+pub name_of_spec : {M : Type 1} → statement M
+name_of_spec =
     tie.close (tie.spec
     (λ c. search rules)  -- mul-at
     (λ c. search rules)  -- element-copy-out-at
@@ -18,4 +18,4 @@ name-of-spec =
     (λ c. search rules)  -- sub-result
     (λ c. search rules)  -- part-result-start
     (λ c. search rules)  -- part-result-end
-    (λ c. name-read _ _ c.before.before.before.before.before.requires refl c.before.wide.ensures.0 refl))  -- returns
+    (λ c. name-read _ _ c.requires refl c.wide-size.ensures.0 refl))  -- returns

@@ -7,18 +7,18 @@ use Rattle.lines.proofs.Numbers.{number-said}
 use Rattle.lines.proofs.pieces.number.Statement.{statement}
 use Rattle.lines.proofs.pieces.number.Tie as tie
 
-digits-requires : tie.Need-digits-requires
+digits-requires : tie.Need-digits-i-requires
 digits-requires c κs =
-    let s = c.before.before in
+    let s = c in
     (omega (arith, decimal-short s.args.v s.ranges.v.fits), omega arith, refl)
 
 returns : tie.Need-returns
 returns c =
-    let s = c.before.before.before.before.before.before.before.before.before in
-    number-said s.args.v refl c.before.before.before.before.before.before.digits.ensures s.ranges.v.fits c.before.before.copy.ensures
+    let s = c in
+    number-said s.args.v refl c.digits-i.ensures s.ranges.v.fits c.copy.ensures
 
-pub number-spec : {M : Type 1} → statement M
-number-spec =
+pub number_spec : {M : Type 1} → statement M
+number_spec =
     tie.close (tie.spec
     digits-requires
     (λ c. search rules)  -- sub-copy

@@ -4,10 +4,10 @@ use Rattle.lines.proofs.Parts.{piecing}
 use Rattle.lines.proofs.pieces.piece.Statement.{statement}
 use Rattle.lines.proofs.pieces.piece.Tie as tie
 
-pub piece-spec : {M : Type 1} → statement M
-piece-spec =
+pub piece_spec : {M : Type 1} → statement M
+piece_spec =
     tie.close (tie.spec
-    (λ c κs. c.before.before.before.requires.1 c.if1.true)  -- name-of-requires
+    (λ c κs. c.requires.1 c.if-part-eq200.true)  -- name-of-requires
     (λ c. search piecing)  -- returns
     (λ c κs. search rules)  -- phrase-of-requires
     (λ c. search piecing)  -- returns-2

@@ -10,24 +10,24 @@ use Rattle.lines.proofs.Sink.{Left, left-start, left_put, left-none}
 use Rattle.lines.proofs.pieces.store.Statement.{statement}
 use Rattle.lines.proofs.pieces.store.Tie as tie
 
-abbrev invariant-loop : tie.invariant-loop
+abbrev invariant-loop : tie.invariant-loop-i
 invariant-loop out₀ n s i₀ out i = (i ≤ length s) × (length out ≡ length out₀) × Left out₀ n s out (n + i) (drop i s)
 
-abbrev decreases-loop : tie.decreases-loop
+abbrev decreases-loop : tie.decreases-loop-i
 decreases-loop out₀ n s i₀ out i = length s - i
 
-loop-again : tie.Need-loop-preserved invariant-loop decreases-loop
+loop-again : tie.Need-loop-i-preserved invariant-loop decreases-loop
 loop-again c =
-    let u = c.before.before in
-    let a = u.before.args in
-    (omega arith, simp length-set u.loop.invariant.1, rw (← add_assoc a.n u.loop.i 1) (left_put a.s.now u.loop.i _ u.loop.invariant.2 (omega arith) refl))
+    let u = c in
+    let a = u.args in
+    (omega arith, simp length-set u.loop-i.invariant.1, rw (← add_assoc a.n u.loop-i.i 1) (left_put a.s.now u.loop-i.i _ u.loop-i.invariant.2 (omega arith) refl))
 
 returns : tie.Need-returns invariant-loop decreases-loop
 returns c =
-    let u = c.before in
-    let a = u.before.args in
-    let z : u.loop.i ≡ length a.s.now = omega arith in
-    let l = rw (z, drop-length a.s.now) at u.loop.invariant.2 in
+    let u = c in
+    let a = u.args in
+    let z : u.loop-i.i ≡ length a.s.now = omega arith in
+    let l = rw (z, drop-length a.s.now) at u.loop-i.invariant.2 in
     (left-none l).holds
 
 pub store_spec : {M : Type 1} → statement M

@@ -4,8 +4,8 @@ use Rattle.lines.proofs.Parts.{parting}
 use Rattle.lines.proofs.pieces.write_part.Statement.{statement}
 use Rattle.lines.proofs.pieces.write_part.Tie as tie
 
-pub write-part-spec : {M : Type 1} → statement M
-write-part-spec =
+pub write_part_spec : {M : Type 1} → statement M
+write_part_spec =
     tie.close (tie.spec
     (λ c κs. search rules)  -- number-requires
     (λ c. search rules)  -- same-length

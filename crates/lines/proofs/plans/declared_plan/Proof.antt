@@ -3,8 +3,8 @@ use borrow.Author.Rules.{rules}
 use Rattle.lines.proofs.plans.declared_plan.Statement.{statement}
 use Rattle.lines.proofs.plans.declared_plan.Tie as tie
 
-pub declared-plan-spec : {M : Type 1} → statement M
-declared-plan-spec =
+pub declared_plan_spec : {M : Type 1} → statement M
+declared_plan_spec =
     tie.close (tie.spec
     (λ c κs. search rules)  -- kind-word-requires
     (λ c κs. search rules)  -- worded-requires

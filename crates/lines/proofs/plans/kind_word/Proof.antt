@@ -3,8 +3,8 @@ use borrow.Author.Rules.{rules}
 use Rattle.lines.proofs.plans.kind_word.Statement.{statement}
 use Rattle.lines.proofs.plans.kind_word.Tie as tie
 
-pub kind-word-spec : {M : Type 1} → statement M
-kind-word-spec =
+pub kind_word_spec : {M : Type 1} → statement M
+kind_word_spec =
     tie.close (tie.spec
     (λ c. search rules)  -- enum-told
     (λ c. search rules)  -- enum-told-2

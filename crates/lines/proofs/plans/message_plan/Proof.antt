@@ -5,8 +5,8 @@ use borrow.Author.Rules.{rules}
 use Rattle.lines.proofs.plans.message_plan.Statement.{statement}
 use Rattle.lines.proofs.plans.message_plan.Tie as tie
 
-pub message-plan-spec : {M : Type 1} → statement M
-message-plan-spec =
+pub message_plan_spec : {M : Type 1} → statement M
+message_plan_spec =
     tie.close (tie.spec
     (λ c. search rules)  -- enum-known-message
     (λ c κs. search rules)  -- named-requires

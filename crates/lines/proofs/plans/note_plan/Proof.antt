@@ -5,8 +5,8 @@ use borrow.Author.Rules.{rules}
 use Rattle.lines.proofs.plans.note_plan.Statement.{statement}
 use Rattle.lines.proofs.plans.note_plan.Tie as tie
 
-pub note-plan-spec : {M : Type 1} → statement M
-note-plan-spec =
+pub note_plan_spec : {M : Type 1} → statement M
+note_plan_spec =
     tie.close (tie.spec
     (λ c. search rules)  -- enum-known-note
     (λ c κs. search rules)  -- named-requires

@@ -4,20 +4,20 @@ use borrow.Author.Rules.{rules}
 use Rattle.lines.proofs.plans.operand_plan.Statement.{statement}
 use Rattle.lines.proofs.plans.operand_plan.Tie as tie
 
-returns : tie.Need-returns
+returns : tie.Need-returns-in-Some
 unfolding operand_plan
 returns c = cc
 
-returns-2 : tie.Need-returns-2
+returns-2 : tie.Need-returns-in-Some-slice
 unfolding operand_plan
 returns-2 c = cc
 
-returns-3 : tie.Need-returns-3
+returns-3 : tie.Need-returns
 unfolding operand_plan
 returns-3 c = cc
 
-pub operand-plan-spec : {M : Type 1} → statement M
-operand-plan-spec =
+pub operand_plan_spec : {M : Type 1} → statement M
+operand_plan_spec =
     tie.close (tie.spec
     (λ c. search rules)  -- enum-known-index
     (λ c. search rules)  -- add-numbered

@@ -5,8 +5,8 @@ use borrow.Author.Rules.{rules}
 use Rattle.lines.proofs.plans.type_plan.Statement.{statement}
 use Rattle.lines.proofs.plans.type_plan.Tie as tie
 
-pub type-plan-spec : {M : Type 1} → statement M
-type-plan-spec =
+pub type_plan_spec : {M : Type 1} → statement M
+type_plan_spec =
     tie.close (tie.spec
     (λ c. search rules)  -- enum-known-message
     (λ c κs. search rules)  -- required-plan-requires
@@ -36,4 +36,4 @@ type-plan-spec =
     (λ c. search (arm plan_of))  -- returns-7
     (λ c. search (arm plan_of))  -- returns-8
     (λ c. search (arm plan_of))  -- returns-9
-    (λ c. arm plan_of (last-of_types c.before.before.requires c.before.match.keys10) c.plain3.ensures))  -- returns-10
+    (λ c. arm plan_of (last-of_types c.requires c.in_default.is) c.plain-in_default.ensures))  -- returns-10

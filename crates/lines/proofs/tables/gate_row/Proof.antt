@@ -6,9 +6,9 @@ use Rattle.lines.proofs.Parts.{row_is}
 use Rattle.lines.proofs.tables.gate_row.Statement.{statement}
 use Rattle.lines.proofs.tables.gate_row.Tie as tie
 
-pub gate-row-spec : {M : Type 1} → statement M
+pub gate_row_spec : {M : Type 1} → statement M
 unfolding plans
-gate-row-spec =
+gate_row_spec =
     tie.close (tie.spec
     (λ c. search row_is)  -- returns
     (λ c. search row_is)  -- returns-2
@@ -26,4 +26,4 @@ gate-row-spec =
     (λ c. search row_is)  -- returns-14
     (λ c. search row_is)  -- returns-15
     (λ c. search row_is)  -- returns-16
-    (λ c. row_is 35 tt (last-from 19 16 _ c.match.rest c.before.requires.0 c.before.requires.1) refl))  -- returns-17
+    (λ c. row_is 35 tt (last-from 19 16 _ c.in_default.in_default-own.rest c.requires.0 c.requires.1) refl))  -- returns-17

@@ -6,9 +6,9 @@ use Rattle.lines.proofs.Parts.{row_is}
 use Rattle.lines.proofs.tables.name_row.Statement.{statement}
 use Rattle.lines.proofs.tables.name_row.Tie as tie
 
-pub name-row-spec : {M : Type 1} → statement M
+pub name_row_spec : {M : Type 1} → statement M
 unfolding plans
-name-row-spec =
+name_row_spec =
     tie.close (tie.spec
     (λ c. search row_is)  -- returns
     (λ c. search row_is)  -- returns-2
@@ -28,4 +28,4 @@ name-row-spec =
     (λ c. search row_is)  -- returns-16
     (λ c. search row_is)  -- returns-17
     (λ c. search row_is)  -- returns-18
-    (λ c. row_is 18 tt (last-case 18 _ c.match.rest c.before.requires) refl))  -- returns-19
+    (λ c. row_is 18 tt (last-case 18 _ c.in_default.in_default-own.rest c.requires) refl))  -- returns-19

@@ -6,9 +6,9 @@ use Rattle.lines.proofs.Parts.{row_is, row-none, nine_none}
 use Rattle.lines.proofs.tables.note_row.Statement.{statement}
 use Rattle.lines.proofs.tables.note_row.Tie as tie
 
-pub note-row-spec : {M : Type 1} → statement M
+pub note_row_spec : {M : Type 1} → statement M
 unfolding plans
-note-row-spec =
+note_row_spec =
     tie.close (tie.spec
     (λ c. search row_is)  -- returns
     (λ c. search row_is)  -- returns-2
@@ -19,4 +19,4 @@ note-row-spec =
     (λ c. search row_is)  -- returns-7
     (λ c. search row_is)  -- returns-8
     (λ c. search row_is)  -- returns-9
-    (λ c. λ k h. nine_none k h ∙ row-none c.before.args.kind k (unlike-from 50 9 _ c.match.rest c.before.requires)))  -- returns-10
+    (λ c. λ k h. nine_none k h ∙ row-none c.args.kind k (unlike-from 50 9 _ c.in_default.in_default-own.rest c.requires)))  -- returns-10

@@ -6,9 +6,9 @@ use Rattle.lines.proofs.Parts.{row_is}
 use Rattle.lines.proofs.tables.type_row.Statement.{statement}
 use Rattle.lines.proofs.tables.type_row.Tie as tie
 
-pub type-row-spec : {M : Type 1} → statement M
+pub type_row_spec : {M : Type 1} → statement M
 unfolding plans
-type-row-spec =
+type_row_spec =
     tie.close (tie.spec
     (λ c. search row_is)  -- returns
     (λ c. search row_is)  -- returns-2
@@ -23,4 +23,4 @@ type-row-spec =
     (λ c. search row_is)  -- returns-11
     (λ c. search row_is)  -- returns-12
     (λ c. search row_is)  -- returns-13
-    (λ c. row_is 49 tt (last-from 36 13 _ c.match.rest c.before.requires.0 c.before.requires.1) refl))  -- returns-14
+    (λ c. row_is 49 tt (last-from 36 13 _ c.in_default.in_default-own.rest c.requires.0 c.requires.1) refl))  -- returns-14
