@@ -73,7 +73,7 @@ few-insert t x f h l = record { few = λ y. at y (eqb x y) refl }
 pub length_types : (tree : List ℕ) (at n : ℕ) → length (type_bytes tree at n) ≡ n
 unfolding type_bytes
 length_types tree at zero = refl
-length_types tree at (suc n) = ap suc (length_types tree _ n)
+length_types tree at (suc n) = ap suc (length_types tree (at + 3) n)
 
 pub few-defined : (t : Table FunctionSig) (tree : List ℕ) (x at count : ℕ) (ty : ClassicalType) (sp : Span) → FewParams t → count ≤ vec_limit → FewParams (insert t x (function_in tree at count ty sp))
 few-defined t tree x at count ty sp h l =

@@ -18,7 +18,7 @@ copy_spec =
     (λ c. record { holds = c.store.ensures; after = refl })  -- returns
     (λ c. search rules)  -- sub-room
     (λ c. sym (length-take-le _ _ (omega arith)))  -- slice-aggregate-store
-    (λ c κs. let a = c.args in omega (arith, length-take-le (length a.out-1.now - a.n) a.s.now (omega arith)))  -- store-requires-2
+    (λ c κs. let a = c.args in omega (arith, length-take-le (length a.out.now - a.n) a.s.now (omega arith)))  -- store-requires-2
     (λ c. search rules)  -- same-length-2
-    (λ c. let a = c.args in record { holds = c.store-then-n-out.ensures ∙ sets-cut a.s.now a.out-1.now a.n (length a.out-1.now - a.n) (omega arith); after = refl })  -- returns-2
-    (λ c. let a = c.args in record { holds = sets-cut a.s.now a.out-1.now a.n 0 (omega arith); after = refl }))  -- returns-3
+    (λ c. let a = c.args in record { holds = c.store-then-n-out.ensures ∙ sets-cut a.s.now a.out.now a.n (length a.out.now - a.n) (omega arith); after = refl })  -- returns-2
+    (λ c. let a = c.args in record { holds = sets-cut a.s.now a.out.now a.n 0 (omega arith); after = refl }))  -- returns-3

@@ -36,4 +36,4 @@ type_plan_spec =
     (λ c. search (arm plan_of))  -- returns-7
     (λ c. search (arm plan_of))  -- returns-8
     (λ c. search (arm plan_of))  -- returns-9
-    (λ c. arm plan_of (last-of_types c.requires c.in_default.is) c.plain-in_default.ensures))  -- returns-10
+    (λ c. arm plan_of (last-of_types c.requires c.in_default.in_default-own.keys10) c.plain-in_default.ensures))  -- returns-10
