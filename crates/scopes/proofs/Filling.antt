@@ -13,7 +13,7 @@ use Rattle.tree.specs.Texts.{is_name}
 use Rattle.tree.specs.Exprs.{name}
 use Rattle.tree.specs.Stmts.{param}
 use Rattle.sema.specs.Messages.{Classical, GateParam, GateQubit}
-use Rattle.sema.specs.Symbols.{Symbol, Symbols, Scope, empty, plain, insert_all, gate_scope, function_scope, loop_scope}
+use Rattle.sema.specs.Symbols.{Symbol, Symbols, Scope, empty, plain, insert, insert_all, gate_scope, function_scope, loop_scope}
 use Rattle.context.specs.View.{number_at, type_of, scopes_of, gates_of, functions_of}
 use Rattle.tables.specs.Tables.{Becomes, Inserted, Entered}
 use Rattle.accepted.specs.Parts.{value_or, next_is, value_is}
@@ -68,7 +68,7 @@ module _ {A : Type 0} (p : Reader A) (f : A → TextNumber × Symbol) (tree s : 
 into-head : (c : Scope) (ss : Symbols) (es : List (TextNumber × Symbol)) → into (c ∷ ss) es ≡ insert_all c es ∷ ss
 unfolding into insert_all
 into-head c ss [] = refl
-into-head c ss (e ∷ es) = into-head _ ss es
+into-head c ss (e ∷ es) = into-head (insert c e.0 e.1) ss es
 
 module _ {s u v : List ℕ} {depth : ℕ} (a : Entered s u depth) where
   pub gate-entered : {w : List ℕ} (params qparams : List TextNumber) (sp : Span)

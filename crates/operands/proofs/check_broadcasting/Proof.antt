@@ -5,23 +5,23 @@ use borrow.Author.Rules.{rules}
 use Rattle.operands.proofs.check_broadcasting.Statement.{statement}
 use Rattle.operands.proofs.check_broadcasting.Tie as tie
 
-returns : tie.Need-returns
+returns : tie.Need-returns-in-None
 returns c =
-    let p = c.before.before.before.before.before.before.requires in
-    broadcast_none _ _ _ p.3 _ c.before.before.register-widths.ensures p.4 c.enum_told.given.1
+    let p = c.requires in
+    broadcast_none _ _ _ p.3 _ c.register_widths.ensures p.4 c.in-None.is
 
-returns-2 : tie.Need-returns-2
+returns-2 : tie.Need-returns-in-All
 returns-2 c =
-    let p = c.before.before.before.before.before.before.requires in
-    broadcast_all _ _ _ p.3 _ c.before.before.register-widths.ensures p.4 c.enum-told2.given.1
+    let p = c.requires in
+    broadcast_all _ _ _ p.3 _ c.register_widths.ensures p.4 c.in-All.is
 
-returns-3 : tie.Need-returns-3
+returns-3 : tie.Need-returns-in-Differ
 returns-3 c =
-    let p = c.before.before.before.before.before.before.before.before.before.before.before.requires in
-    broadcast_differ _ _ _ p.3 _ c.before.before.before.before.before.before.before.register-widths.ensures c.before.before.before.before.before.enum-told3.given.1 c.before.before.before.error.ensures c.before.before.report.ensures
+    let p = c.requires in
+    broadcast_differ _ _ _ p.3 _ c.register_widths.ensures c.in-Differ.is c.error.ensures c.report.ensures
 
-pub check-broadcasting-spec : {M : Type 1} → statement M
-check-broadcasting-spec =
+pub check_broadcasting_spec : {M : Type 1} → statement M
+check_broadcasting_spec =
     tie.close (tie.spec
     (λ c κs. search rules)  -- register-widths-requires
     (λ c. search rules)  -- enum_told

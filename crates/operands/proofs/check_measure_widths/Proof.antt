@@ -5,8 +5,8 @@ use borrow.Author.Rules.{rules}
 use Rattle.operands.proofs.check_measure_widths.Statement.{statement}
 use Rattle.operands.proofs.check_measure_widths.Tie as tie
 
-pub check-measure-widths-spec : {M : Type 1} → statement M
-check-measure-widths-spec =
+pub check_measure_widths_spec : {M : Type 1} → statement M
+check_measure_widths_spec =
     tie.close (tie.spec
     (λ c κs. search rules)  -- operand-width-requires
     (λ c. search rules)  -- enum-known-a

@@ -4,8 +4,8 @@ use borrow.Author.Rules.{rules}
 use Rattle.operands.proofs.check_operand.Statement.{statement}
 use Rattle.operands.proofs.check_operand.Tie as tie
 
-pub check-operand-spec : {M : Type 1} → statement M
-check-operand-spec =
+pub check_operand_spec : {M : Type 1} → statement M
+check_operand_spec =
     tie.close (tie.spec
     (λ c κs. search rules)  -- get-requires
     (λ c. search rules)  -- enum-known-symbol

@@ -5,8 +5,8 @@ use borrow.Author.Rules.{rules}
 use Rattle.operands.proofs.check_use_after_measure.Statement.{statement}
 use Rattle.operands.proofs.check_use_after_measure.Tie as tie
 
-pub check-use-after-measure-spec : {M : Type 1} → statement M
-check-use-after-measure-spec =
+pub check_use_after_measure_spec : {M : Type 1} → statement M
+check_use_after_measure_spec =
     tie.close (tie.spec
     (λ c. search rules)  -- enum-known-slice
     (λ c κs. search rules)  -- check-slice-use-requires

@@ -4,8 +4,8 @@ use borrow.Author.Rules.{rules}
 use Rattle.operands.proofs.operand_width.Statement.{statement}
 use Rattle.operands.proofs.operand_width.Tie as tie
 
-pub operand-width-spec : {M : Type 1} → statement M
-operand-width-spec =
+pub operand_width_spec : {M : Type 1} → statement M
+operand_width_spec =
     tie.close (tie.spec
     (λ c κs. search rules)  -- get-requires
     (λ c. search rules)  -- enum-known-symbol

@@ -7,23 +7,23 @@ use Rattle.operands.proofs.PassLaws.{pass_other, pass_loud, pass_quiet}
 use Rattle.operands.proofs.passes.Statement.{statement}
 use Rattle.operands.proofs.passes.Tie as tie
 
-is-quiet-requires : tie.Need-is-quiet-requires
+is-quiet-requires : tie.Need-is_quiet-requires
 is-quiet-requires c κs =
-    let p = c.before.before.before.before.before.requires in
-    let l = operand_below _ _ _ c.single-at.result c.single-at.ensures in
+    let p = c.requires in
+    let l = operand_below _ _ _ c.single_at-op.result c.single_at-op.ensures in
     (p.1, p.2, omega (arith, p.0.few))
 
 lookup-requires : tie.Need-lookup-requires
 lookup-requires c κs =
-    let p = c.before.before.before.before.before.before.before.requires in
-    let l = operand_below _ _ _ c.before.before.single-at.result c.before.before.single-at.ensures in
+    let p = c.requires in
+    let l = operand_below _ _ _ c.single_at-op.result c.single_at-op.ensures in
     (p.3, (p.4, omega (arith, p.0.few)))
 
-pub passes-spec : {M : Type 1} → statement M
-passes-spec =
+pub passes_spec : {M : Type 1} → statement M
+passes_spec =
     tie.close (tie.spec
     (λ c κs. search rules)  -- is-single-requires
-    (λ c κs. (c.before.before.before.before.requires.5, sym c.before.is-single.ensures ∙ c.if1.true))  -- single-at-requires
+    (λ c κs. (c.requires.5, sym c.is_single.ensures ∙ c.if-is_single.true))  -- single-at-requires
     is-quiet-requires
     lookup-requires
     (λ c. search pass_quiet)  -- returns

@@ -5,8 +5,8 @@ use borrow.Author.Rules.{rules}
 use Rattle.operands.proofs.use_operand.Statement.{statement}
 use Rattle.operands.proofs.use_operand.Tie as tie
 
-pub use-operand-spec : {M : Type 1} → statement M
-use-operand-spec =
+pub use_operand_spec : {M : Type 1} → statement M
+use_operand_spec =
     tie.close (tie.spec
     (λ c κs. search rules)  -- is-quiet-requires
     (λ c κs. search rules)  -- check-use-after-measure-requires

@@ -7,11 +7,11 @@ use borrow.Author.Rules.{rules}
 use Rattle.scopes.proofs.declare.Statement.{statement}
 use Rattle.scopes.proofs.declare.Tie as tie
 
-returns : tie.Need-returns
-returns c = let g = c.before.before.before.before.before.before.get-current in (none_found _ _ _ _ g.ensures c.before.before.before.before.enum_told.given.1, (declared-new _ _ _ _ g.ensures _ c.before.before.before.before.before.before.before.before.before.args.symbol c.before.before.before.before.enum_told.given.1 c.before.before.insert.ensures, inserted_below _ _ _ _ _ (omega arith) c.before.before.insert.ensures))
+returns : tie.Need-returns-in_default
+returns c = let g = c.get_current in (none_found _ _ _ _ g.ensures c.in_default.is, (declared-new _ _ _ _ g.ensures _ c.args.symbol c.in_default.is c.insert.ensures, inserted_below _ _ _ _ _ (omega arith) c.insert.ensures))
 
-pub declare-spec : {M : Type 1} → statement M
-declare-spec =
+pub declare_spec : {M : Type 1} → statement M
+declare_spec =
     tie.close (tie.spec
     (λ c κs. search rules)  -- get-current-requires: let FoundSymbol::Some(prev) = tables::get_current(scratch, d ..
     (λ c. search rules)  -- enum-known-prev
@@ -20,4 +20,4 @@ declare-spec =
     (λ c. search rules)  -- same-length: return FoundSymbol::None;
     returns
     (λ c. search rules)  -- same-length-2: pub fn declare(scratch: &mut [u8], depth: usize, x: usize, s ..
-    (λ c. let g = c.before.before.before.get-current in (some-found _ _ _ _ g.ensures _ c.before.prev.given.1, (declared-again _ _ _ _ g.ensures c.before.before.before.before.before.before.args.symbol _ c.before.prev.given.1, λ d l. refl))))  -- returns-2
+    (λ c. let g = c.get_current in (some-found _ _ _ _ g.ensures _ c.in-Some.is, (declared-again _ _ _ _ g.ensures c.args.symbol _ c.in-Some.is, λ d l. refl))))  -- returns-2

@@ -4,11 +4,11 @@ use borrow.Author.Rules.{rules}
 use Rattle.scopes.proofs.enter_loop.Statement.{statement}
 use Rattle.scopes.proofs.enter_loop.Tie as tie
 
-pub enter-loop-spec : {M : Type 1} → statement M
-enter-loop-spec =
+pub enter_loop_spec : {M : Type 1} → statement M
+enter_loop_spec =
     tie.close (tie.spec
     (λ c κs. search rules)  -- enter-requires: tables::enter(scratch, depth);
     (λ c. search rules)  -- add-insert: tables::insert(scratch, depth + 1, x, symbol);
     (λ c κs. search rules)  -- insert-requires
     (λ c. search rules)  -- same-length: pub fn enter_loop(scratch: &mut [u8], depth: usize, x: usize ..
-    (λ c. loop-entered c.before.before.before.before.before.before.enter.ensures _ _ _ c.before.before.insert.ensures))  -- returns
+    (λ c. loop-entered c.enter.ensures _ _ _ c.insert.ensures))  -- returns

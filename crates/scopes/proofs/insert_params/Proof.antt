@@ -10,27 +10,27 @@ use borrow.Author.Rules.{rules}
 use Rattle.scopes.proofs.insert_params.Statement.{statement}
 use Rattle.scopes.proofs.insert_params.Tie as tie
 
-abbrev invariant-loop : tie.invariant-loop
+abbrev invariant-loop : tie.invariant-loop-n
 invariant-loop tree scratch₀ depth at span n₀ k₀ scratch n k = Filling (param (texts_of tree)) (typed span) tree scratch₀ depth at scratch n k
 
-abbrev decreases-loop : tie.decreases-loop
+abbrev decreases-loop : tie.decreases-loop-n
 decreases-loop tree scratch₀ depth at span n₀ k₀ scratch n k = n
 
-loop-again : tie.Need-loop-preserved invariant-loop decreases-loop
-loop-again c = let l = c.before.before.before.before.before.before.before.loop in filling_more _ _ _ _ _ _ _ _ _ l.invariant c.before.before.before.before.before.before.loop-test.true _ _ (param-read _ _ _ (filling_first _ _ _ _ _ _ _ _ _ l.invariant c.before.before.before.before.before.before.loop-test.true) _ c.before.before.before.before.before.type_at.ensures _ c.before.before.before.before.u16-at.ensures.0) _ c.before.before.insert.ensures
+loop-again : tie.Need-loop-n-preserved invariant-loop decreases-loop
+loop-again c = let l = c.loop-n in filling_more _ _ _ _ _ _ _ _ _ l.invariant c.loop-n-test.true _ _ (param-read _ _ _ (filling_first _ _ _ _ _ _ _ _ _ l.invariant c.loop-n-test.true) _ c.type_at-ty.ensures _ c.u16_at-x.ensures.0) _ c.insert.ensures
 
-pub insert-params-spec : {M : Type 1} → statement M
-insert-params-spec =
+pub insert_params_spec : {M : Type 1} → statement M
+insert_params_spec =
     tie.close (tie.spec invariant-loop decreases-loop
     (λ c. search counted_in)  -- shared-slice-read-wide: let mut n = wide(tree[at]);
     (λ c κs. search rules)  -- wide-requires
-    (λ c. let i = counted_in _ _ _ _ _ c.before.before.before.before.requires.4 in omega arith)  -- add-k: let mut k = at + 1;
+    (λ c. let i = counted_in _ _ _ _ _ c.requires.4 in omega arith)  -- add-k: let mut k = at + 1;
     (λ c. search filling_start)  -- loop-holds: while 0 < n {
-    (λ c κs. let i = (param-named _ _ _ (filling_first _ _ _ _ _ _ _ _ _ c.before.loop.invariant c.loop-test.true)).inside in omega arith)  -- type-at-requires: let ty = type_at(tree, k);
-    (λ c. let i = (param-named _ _ _ (filling_first _ _ _ _ _ _ _ _ _ c.before.before.loop.invariant c.before.loop-test.true)).inside in omega arith)  -- add-u16-at: let x = u16_at(tree, k + 1);
-    (λ c κs. let i = (param-named _ _ _ (filling_first _ _ _ _ _ _ _ _ _ c.before.before.loop.invariant c.before.loop-test.true)).inside in omega arith)  -- u16-at-requires
-    (λ c κs. let l = c.before.before.before.before.loop in let i = (param-named _ _ _ (filling_first _ _ _ _ _ _ _ _ _ l.invariant c.before.before.before.loop-test.true)).below in omega (arith, l.invariant.becomes.same_length))  -- insert-requires: tables::insert(scratch, depth, x, symbol);
-    (λ c. let i = (param-named _ _ _ (filling_first _ _ _ _ _ _ _ _ _ c.before.before.before.before.before.before.before.loop.invariant c.before.before.before.before.before.before.loop-test.true)).inside in omega arith)  -- add-k-2: k += 3;
+    (λ c κs. let i = (param-named _ _ _ (filling_first _ _ _ _ _ _ _ _ _ c.loop-n.invariant c.loop-n-test.true)).inside in omega arith)  -- type-at-requires: let ty = type_at(tree, k);
+    (λ c. let i = (param-named _ _ _ (filling_first _ _ _ _ _ _ _ _ _ c.loop-n.invariant c.loop-n-test.true)).inside in omega arith)  -- add-u16-at: let x = u16_at(tree, k + 1);
+    (λ c κs. let i = (param-named _ _ _ (filling_first _ _ _ _ _ _ _ _ _ c.loop-n.invariant c.loop-n-test.true)).inside in omega arith)  -- u16-at-requires
+    (λ c κs. let l = c.loop-n in let i = (param-named _ _ _ (filling_first _ _ _ _ _ _ _ _ _ l.invariant c.loop-n-test.true)).below in omega (arith, l.invariant.becomes.same_length))  -- insert-requires: tables::insert(scratch, depth, x, symbol);
+    (λ c. let i = (param-named _ _ _ (filling_first _ _ _ _ _ _ _ _ _ c.loop-n.invariant c.loop-n-test.true)).inside in omega arith)  -- add-k-2: k += 3;
     (λ c. search rules)  -- sub-n: n -= 1;
     (λ c. search rules)  -- loop-less: while 0 < n {
     loop-again

@@ -37,10 +37,10 @@ abbrev μ-check-call : Measures 4 check-call-lts.ps ℕ
 abbrev μ-check-expr : Measures 4 check-expr-lts.ps ℕ
 μ-check-expr κs a = 2 * (length a.0.now - a.1.1.1.1.1.0) + 1
 
-abbrev check-arguments-Inv-loop : check-arguments-lts.invariant-loop
+abbrev check-arguments-Inv-loop : check-arguments-lts.invariant-loop-i
 check-arguments-Inv-loop tree index scratch out₀ depth at left x params n k₀ i₀ s₀ out k i s = Arguing (texts_of tree) (scopes_of scratch depth) (functions_of scratch) left tree at x (params_of (functions_of scratch x)) n s₀ out₀ k i s out × (length out ≡ length out₀)
 
-abbrev check-arguments-μ-loop : check-arguments-lts.decreases-loop
+abbrev check-arguments-μ-loop : check-arguments-lts.decreases-loop-i
 check-arguments-μ-loop tree index scratch out₀ depth at left x params n k₀ i₀ s₀ out k i s = n - i
 
 module _ (t : ℕ) where
@@ -65,31 +65,31 @@ module _ (t : ℕ) where
   abbrev check-arguments-calls : check-arguments-lts.Claims
   check-arguments-calls = (text.wide.Reads.Asked, text.wide.Reads.Learnt, check-expr-below, check-expr.Post, fns.calls.check_argument.Reads.Asked, fns.calls.check_argument.Reads.Learnt)
 
-  abbrev check-arguments-asks : (check-arguments-lts.Claims → In 4 check-arguments-lts.ps → Out 4 check-arguments-lts.ps check-arguments-lts.r → check-arguments-lts.invariant-loop → check-arguments-lts.decreases-loop → Type 0) → Type 0
+  abbrev check-arguments-asks : (check-arguments-lts.Claims → In 4 check-arguments-lts.ps → Out 4 check-arguments-lts.ps check-arguments-lts.r → check-arguments-lts.invariant-loop-i → check-arguments-lts.decreases-loop-i → Type 0) → Type 0
   check-arguments-asks Need = Need check-arguments-calls check-arguments-at check-arguments.Post check-arguments-Inv-loop check-arguments-μ-loop
 
-  check-arguments-check-expr-requires : check-arguments-asks check-arguments-lts.Need-check-expr-requires
-  check-arguments-check-expr-requires c κs = let g = c.before.before.loop.invariant.0 in let i = expr_in _ _ _ _ (arguing_first g c.before.loop-test.true) in (omega (arith, g.past), (c.before.before.before.before.before.before.before.before.requires.1.0, g.owes.fits, arguing_first g c.before.loop-test.true))
+  check-arguments-check-expr-requires : check-arguments-asks check-arguments-lts.Need-check_expr-t-requires
+  check-arguments-check-expr-requires c κs = let g = c.loop-i.invariant.0 in let i = expr_in _ _ _ _ (arguing_first g c.loop-i-test.true) in (omega (arith, g.past), (c.requires.1.0, g.owes.fits, arguing_first g c.loop-i-test.true))
 
-  check-arguments-check-argument-requires : check-arguments-asks check-arguments-lts.Need-check-argument-requires
-  check-arguments-check-argument-requires c κs = let p = c.before.before.before.before.before.before.before.before.before.before.before.before.requires.1 in let h = arguing_first c.before.before.before.before.before.before.loop.invariant.0 c.before.before.before.before.before.loop-test.true in let e = c.before.before.before.check-expr.ensures.next in (p.0.texts, p.0.room, c.before.before.before.check-expr.ensures.emitted.fits, p.2, p.3, span-room _ _ _ _ h _ e, span_in _ _ _ _ h _ e)
+  check-arguments-check-argument-requires : check-arguments-asks check-arguments-lts.Need-check_argument-s-requires
+  check-arguments-check-argument-requires c κs = let p = c.requires.1 in let h = arguing_first c.loop-i.invariant.0 c.loop-i-test.true in let e = c.check_expr-t.ensures.next in (p.0.texts, p.0.room, c.check_expr-t.ensures.emitted.fits, p.2, p.3, span-room _ _ _ _ h _ e, span_in _ _ _ _ h _ e)
 
-  check-arguments-loop-again : check-arguments-asks check-arguments-lts.Need-loop-preserved
-  check-arguments-loop-again c = (arguing_more c.before.before.before.before.before.before.before.before.before.loop.invariant.0 c.before.before.before.before.before.before.before.before.loop-test.true c.before.before.before.before.before.before.check-expr.ensures c.before.before.check-argument.ensures, search rules)
+  check-arguments-loop-again : check-arguments-asks check-arguments-lts.Need-loop-i-preserved
+  check-arguments-loop-again c = (arguing_more c.loop-i.invariant.0 c.loop-i-test.true c.check_expr-t.ensures c.check_argument-s.ensures, search rules)
 
   check-arguments-closed : {M : Type 1} → check-arguments-lts.Closed check-arguments-calls check-arguments-at check-arguments.Post M
   check-arguments-closed =
       check-arguments-lts.spec check-arguments-calls check-arguments-at check-arguments.Post check-arguments-Inv-loop check-arguments-μ-loop
-      (λ c. counted_in _ _ _ _ _ c.before.before.before.before.requires.1.4)  -- shared-slice-read-wide: let n = wide(tree[at]);
+      (λ c. counted_in _ _ _ _ _ c.requires.1.4)  -- shared-slice-read-wide: let n = wide(tree[at]);
       (λ c κs. search rules)  -- wide-requires
-      (λ c. let i = counted_in _ _ _ _ _ c.before.before.before.before.before.requires.1.4 in omega arith)  -- add-k: let mut k = at + 1;
-      (λ c. let p = c.before.before.before.before.before.requires.1 in (arguing_start c.wide.ensures.0 p.4 p.1, refl))  -- loop-holds: while i < n {
+      (λ c. let i = counted_in _ _ _ _ _ c.requires.1.4 in omega arith)  -- add-k: let mut k = at + 1;
+      (λ c. let p = c.requires.1 in (arguing_start c.wide-n.ensures.0 p.4 p.1, refl))  -- loop-holds: while i < n {
       check-arguments-check-expr-requires check-arguments-check-argument-requires
-      (λ c. omega (arith, c.before.before.before.before.before.before.before.before.before.before.wide.ensures.1))  -- add-i: i += 1;
+      (λ c. omega (arith, c.wide-n.ensures.1))  -- add-i: i += 1;
       (λ c. omega arith)  -- loop-less: while i < n {
       check-arguments-loop-again
       (λ c. search rules)  -- same-length: fn check_arguments(
-      (λ c. arguing_end c.before.loop.invariant.0 c.loop-test.false)  -- returns
+      (λ c. arguing_end c.loop-i.invariant.0 c.loop-i-test.false)  -- returns
 
   abbrev check-call-calls : check-call-lts.Claims
   check-call-calls = (accepted.numbers.u16_at.Reads.Asked, accepted.numbers.u16_at.Reads.Learnt, accepted.exprs.skip_exprs.Reads.Asked, accepted.exprs.skip_exprs.Reads.Learnt, accepted.numbers.span_at.Reads.Asked, accepted.numbers.span_at.Reads.Learnt, text.wide.Reads.Asked, text.wide.Reads.Learnt, fns.calls.check_callee.Reads.Asked, fns.calls.check_callee.Reads.Learnt, check-arguments-below, check-arguments.Post)
@@ -97,36 +97,36 @@ module _ (t : ℕ) where
   abbrev check-call-asks : (check-call-lts.Claims → In 4 check-call-lts.ps → Out 4 check-call-lts.ps check-call-lts.r → Type 0) → Type 0
   check-call-asks Need = Need check-call-calls check-call-at check-call.Post
 
-  check-call-add-next : check-call-asks check-call-lts.Need-overflow-add-next
-  check-call-add-next c = let p = c.before.before.before.before.before.before.requires.1 in let i = call-inside _ _ _ _ p.2 p.3 _ c.before.skip-exprs.ensures in omega arith
+  check-call-add-next : check-call-asks check-call-lts.Need-overflow_add-next
+  check-call-add-next c = let p = c.requires.1 in let i = call-inside _ _ _ _ p.2 p.3 _ c.skip_exprs-end.ensures in omega arith
 
-  check-call-check-callee-requires : check-call-asks check-call-lts.Need-check-callee-requires
-  check-call-check-callee-requires c κs = let p = c.before.before.before.before.before.before.before.before.before.requires.1 in (p.0.texts, p.0.room, p.1, name_below c.before.before.before.before.before.u16-at.ensures.0 (call-named _ _ _ _ p.2 p.3).below)
+  check-call-check-callee-requires : check-call-asks check-call-lts.Need-check_callee-f-requires
+  check-call-check-callee-requires c κs = let p = c.requires.1 in (p.0.texts, p.0.room, p.1, name_below c.u16_at-x.ensures.0 (call-named _ _ _ _ p.2 p.3).below)
 
-  check-call-add-check-arguments : check-call-asks check-call-lts.Need-overflow-add-check-arguments
-  check-call-add-check-arguments c = let p = c.before.before.before.before.before.before.before.before.before.before.before.before.before.before.requires.1 in let i = (call-named _ _ _ _ p.2 p.3).inside in omega arith
+  check-call-add-check-arguments : check-call-asks check-call-lts.Need-overflow_add-at-4
+  check-call-add-check-arguments c = let p = c.requires.1 in let i = (call-named _ _ _ _ p.2 p.3).inside in omega arith
 
-  check-call-sub-check-arguments : check-call-asks check-call-lts.Need-overflow-sub-check-arguments
-  check-call-sub-check-arguments c = let l = expr_left _ _ _ _ c.before.before.before.before.before.before.before.before.before.before.before.before.before.before.requires.1.2 in omega arith
+  check-call-sub-check-arguments : check-call-asks check-call-lts.Need-overflow_sub-left-2
+  check-call-sub-check-arguments c = let l = expr_left _ _ _ _ c.requires.1.2 in omega arith
 
-  check-call-check-arguments-requires : check-call-asks check-call-lts.Need-check-arguments-requires
-  check-call-check-arguments-requires c κs = let p = c.before.before.before.before.before.before.before.before.before.before.before.before.before.before.requires.1 in let i = (call-named _ _ _ _ p.2 p.3).inside in (omega arith, (p.0, c.before.before.before.before.check-callee.ensures.emitted.fits, name_below c.before.before.before.before.before.before.before.before.before.before.u16-at.ensures.0 (call-named _ _ _ _ p.2 p.3).below, c.before.before.before.before.check-callee.ensures.params, call-args _ _ _ _ p.2 p.3))
+  check-call-check-arguments-requires : check-call-asks check-call-lts.Need-check_arguments-after-requires
+  check-call-check-arguments-requires c κs = let p = c.requires.1 in let i = (call-named _ _ _ _ p.2 p.3).inside in (omega arith, (p.0, c.check_callee-f.ensures.emitted.fits, name_below c.u16_at-x.ensures.0 (call-named _ _ _ _ p.2 p.3).below, c.check_callee-f.ensures.params, call-args _ _ _ _ p.2 p.3))
 
   check-call-returns : check-call-asks check-call-lts.Need-returns
-  check-call-returns c = let p = c.before.before.before.before.before.before.before.before.before.before.before.before.before.before.before.before.before.requires.1 in call_typing _ _ _ _ _ _ p.2 p.3 c.before.before.before.before.before.before.before.before.before.before.before.before.before.u16-at.ensures.0 c.before.before.before.before.before.before.before.before.before.before.before.before.skip-exprs.ensures c.before.before.before.before.before.before.before.before.before.before.before.span-at.ensures c.before.before.before.before.before.before.before.before.before.wide.ensures.0 c.before.before.before.before.before.before.before.check-callee.ensures c.before.before.check-arguments.ensures
+  check-call-returns c = let p = c.requires.1 in call_typing _ _ _ _ _ _ p.2 p.3 c.u16_at-x.ensures.0 c.skip_exprs-end.ensures c.span_at-span.ensures c.wide-n.ensures.0 c.check_callee-f.ensures c.check_arguments-after.ensures
 
   check-call-closed : {M : Type 1} → check-call-lts.Closed check-call-calls check-call-at check-call.Post M
   check-call-closed =
       check-call-lts.spec check-call-calls check-call-at check-call.Post
-      (λ c. let i = expr_in _ _ _ _ c.before.before.before.requires.1.2 in omega arith)  -- add-u16-at: let x = u16_at(tree, at + 1);
-      (λ c κs. let p = c.before.before.before.requires.1 in let i = (call-named _ _ _ _ p.2 p.3).inside in omega arith)  -- u16-at-requires
-      (λ c. let p = c.before.before.before.before.requires.1 in let i = (call-named _ _ _ _ p.2 p.3).inside in omega arith)  -- add-skip-exprs: let end = skip_exprs(tree, at + 3, left - 1);
-      (λ c. let l = expr_left _ _ _ _ c.before.before.before.before.requires.1.2 in omega arith)  -- sub-skip-exprs
-      (λ c κs. let p = c.before.before.before.before.requires.1 in call-args _ _ _ _ p.2 p.3)  -- skip-exprs-requires
-      (λ c κs. let p = c.before.before.before.before.before.requires.1 in call-inside _ _ _ _ p.2 p.3 _ c.skip-exprs.ensures)  -- span-at-requires: let span = span_at(tree, end);
+      (λ c. let i = expr_in _ _ _ _ c.requires.1.2 in omega arith)  -- add-u16-at: let x = u16_at(tree, at + 1);
+      (λ c κs. let p = c.requires.1 in let i = (call-named _ _ _ _ p.2 p.3).inside in omega arith)  -- u16-at-requires
+      (λ c. let p = c.requires.1 in let i = (call-named _ _ _ _ p.2 p.3).inside in omega arith)  -- add-skip-exprs: let end = skip_exprs(tree, at + 3, left - 1);
+      (λ c. let l = expr_left _ _ _ _ c.requires.1.2 in omega arith)  -- sub-skip-exprs
+      (λ c κs. let p = c.requires.1 in call-args _ _ _ _ p.2 p.3)  -- skip-exprs-requires
+      (λ c κs. let p = c.requires.1 in call-inside _ _ _ _ p.2 p.3 _ c.skip_exprs-end.ensures)  -- span-at-requires: let span = span_at(tree, end);
       check-call-add-next
-      (λ c. let p = c.before.before.before.before.before.before.requires.1 in let i = (call-named _ _ _ _ p.2 p.3).inside in omega arith)  -- add-wide: let n = wide(tree[at + 3]);
-      (λ c. let p = c.before.before.before.before.before.before.before.requires.1 in counted_in _ _ _ _ _ (call-args _ _ _ _ p.2 p.3))  -- shared-slice-read-wide
+      (λ c. let p = c.requires.1 in let i = (call-named _ _ _ _ p.2 p.3).inside in omega arith)  -- add-wide: let n = wide(tree[at + 3]);
+      (λ c. let p = c.requires.1 in counted_in _ _ _ _ _ (call-args _ _ _ _ p.2 p.3))  -- shared-slice-read-wide
       (λ c κs. search rules)  -- wide-requires
       check-call-check-callee-requires check-call-add-check-arguments check-call-sub-check-arguments
       check-call-check-arguments-requires
@@ -139,85 +139,85 @@ module _ (t : ℕ) where
   abbrev check-expr-asks : (check-expr-lts.Claims → In 4 check-expr-lts.ps → Out 4 check-expr-lts.ps check-expr-lts.r → Type 0) → Type 0
   check-expr-asks Need = Need check-expr-calls check-expr-at check-expr.Post
 
-  check-expr-check-ident-requires : check-expr-asks check-expr-lts.Need-check-ident-requires
-  check-expr-check-ident-requires c κs = let p = c.before.before.before.before.before.before.requires.1 in (p.0, p.1, ident-inside _ _ _ _ p.2 c.before.match.keys4, (ident-named _ _ _ _ p.2 c.before.match.keys4).below)
+  check-expr-check-ident-requires : check-expr-asks check-expr-lts.Need-check_ident-requires
+  check-expr-check-ident-requires c κs = let p = c.requires.1 in (p.0, p.1, ident-inside _ _ _ _ p.2 c.in-3.is, (ident-named _ _ _ _ p.2 c.in-3.is).below)
 
-  check-expr-check-index-requires : check-expr-asks check-expr-lts.Need-check-index-requires
-  check-expr-check-index-requires c κs = let p = c.before.before.before.before.before.before.requires.1 in (p.0, p.1, index-inside _ _ _ _ p.2 c.before.match.keys5, (index-named _ _ _ _ p.2 c.before.match.keys5).below)
+  check-expr-check-index-requires : check-expr-asks check-expr-lts.Need-check_index-requires
+  check-expr-check-index-requires c κs = let p = c.requires.1 in (p.0, p.1, index-inside _ _ _ _ p.2 c.in-4.is, (index-named _ _ _ _ p.2 c.in-4.is).below)
 
-  check-expr-check-expr-requires : check-expr-asks check-expr-lts.Need-check-expr-requires
-  check-expr-check-expr-requires c κs = let p = c.before.before.before.before.before.before.requires.1 in let i = expr_in _ _ _ _ p.2 in (omega arith, (p.0, p.1, neg_inner _ _ _ _ p.2 c.before.match.keys8))
+  check-expr-check-expr-requires : check-expr-asks check-expr-lts.Need-check_expr-t-requires
+  check-expr-check-expr-requires c κs = let p = c.requires.1 in let i = expr_in _ _ _ _ p.2 in (omega arith, (p.0, p.1, neg_inner _ _ _ _ p.2 c.in-7.is))
 
   check-expr-negation-requires : check-expr-asks check-expr-lts.Need-negation-requires
-  check-expr-negation-requires c κs = let p = c.before.before.before.before.before.before.before.before.before.before.requires.1 in (p.0.texts, c.before.before.before.check-expr.ensures.emitted.fits, neg-inside _ _ _ _ p.2 c.before.before.before.before.before.match.keys8 _ c.before.before.before.check-expr.ensures.next)
+  check-expr-negation-requires c κs = let p = c.requires.1 in (p.0.texts, c.check_expr-t.ensures.emitted.fits, neg-inside _ _ _ _ p.2 c.in-7.is _ c.check_expr-t.ensures.next)
 
-  check-expr-check-expr-requires-2 : check-expr-asks check-expr-lts.Need-check-expr-requires-2
-  check-expr-check-expr-requires-2 c κs = let p = c.before.before.before.before.before.before.requires.1 in let i = expr_in _ _ _ _ p.2 in (omega arith, (p.0, p.1, pair_lhs _ _ _ _ p.2 (operation _ _ _ _ p.2 (unlike 8 _ c.before.match.rest))))
+  check-expr-check-expr-requires-2 : check-expr-asks check-expr-lts.Need-check_expr-l-requires
+  check-expr-check-expr-requires-2 c κs = let p = c.requires.1 in let i = expr_in _ _ _ _ p.2 in (omega arith, (p.0, p.1, pair_lhs _ _ _ _ p.2 (operation _ _ _ _ p.2 (unlike 8 _ c.in_default.in_default-own.rest))))
 
-  check-expr-check-expr-requires-3 : check-expr-asks check-expr-lts.Need-check-expr-requires-3
-  check-expr-check-expr-requires-3 c κs = let p = c.before.before.before.before.before.before.before.before.before.before.before.requires.1 in let o = operation _ _ _ _ p.2 (unlike 8 _ c.before.before.before.before.before.before.match.rest) in let e = c.before.before.before.before.check-expr2.ensures in (omega (arith, expr_in _ _ _ _ p.2, e.next, expr_forward _ _ _ _ (pair_lhs _ _ _ _ p.2 o)), (p.0, e.emitted.fits, pair_rhs _ _ _ _ p.2 o _ e.next))
+  check-expr-check-expr-requires-3 : check-expr-asks check-expr-lts.Need-check_expr-r-requires
+  check-expr-check-expr-requires-3 c κs = let p = c.requires.1 in let o = operation _ _ _ _ p.2 (unlike 8 _ c.in_default.in_default-own.rest) in let e = c.check_expr-l.ensures in (omega (arith, expr_in _ _ _ _ p.2, e.next, expr_forward _ _ _ _ (pair_lhs _ _ _ _ p.2 o)), (p.0, e.emitted.fits, pair_rhs _ _ _ _ p.2 o _ e.next))
 
   check-expr-operation-requires : check-expr-asks check-expr-lts.Need-operation-requires
-  check-expr-operation-requires c κs = let p = c.before.before.before.before.before.before.before.before.before.before.before.before.before.before.before.before.requires.1 in (p.0.texts, c.before.before.before.before.check-expr3.ensures.emitted.fits, pair_inside _ _ _ _ p.2 (operation _ _ _ _ p.2 (unlike 8 _ c.before.before.before.before.before.before.before.before.before.before.before.match.rest)) _ c.before.before.before.before.before.before.before.before.before.check-expr2.ensures.next _ c.before.before.before.before.check-expr3.ensures.next)
+  check-expr-operation-requires c κs = let p = c.requires.1 in (p.0.texts, c.check_expr-r.ensures.emitted.fits, pair_inside _ _ _ _ p.2 (operation _ _ _ _ p.2 (unlike 8 _ c.in_default.in_default-own.rest)) _ c.check_expr-l.ensures.next _ c.check_expr-r.ensures.next)
 
-  check-expr-returns-2 : check-expr-asks check-expr-lts.Need-returns-2
-  check-expr-returns-2 c = let p = c.before.before.before.before.before.before.requires.1 in float_typing _ _ _ _ p.2 p.1 c.before.match.keys2 c.has-type2.ensures
+  check-expr-returns-2 : check-expr-asks check-expr-lts.Need-returns-in-1
+  check-expr-returns-2 c = let p = c.requires.1 in float_typing _ _ _ _ p.2 p.1 c.in-1.is c.has_type-in-1.ensures
 
-  check-expr-returns-4 : check-expr-asks check-expr-lts.Need-returns-4
-  check-expr-returns-4 c = ident_typing _ _ _ _ c.before.before.before.before.before.before.before.before.before.requires.1.2 c.before.before.before.before.match.keys4 c.before.before.check-ident.ensures
+  check-expr-returns-4 : check-expr-asks check-expr-lts.Need-returns-in-3
+  check-expr-returns-4 c = ident_typing _ _ _ _ c.requires.1.2 c.in-3.is c.check_ident.ensures
 
-  check-expr-returns-5 : check-expr-asks check-expr-lts.Need-returns-5
-  check-expr-returns-5 c = index_typing _ _ _ _ c.before.before.before.before.before.before.before.before.before.requires.1.2 c.before.before.before.before.match.keys5 c.before.before.check-index.ensures
+  check-expr-returns-5 : check-expr-asks check-expr-lts.Need-returns-in-4
+  check-expr-returns-5 c = index_typing _ _ _ _ c.requires.1.2 c.in-4.is c.check_index.ensures
 
-  check-expr-returns-7 : check-expr-asks check-expr-lts.Need-returns-7
-  check-expr-returns-7 c = let p = c.before.before.before.before.before.before.requires.1 in const_typing _ _ _ _ p.2 p.1 c.before.match.keys7 c.has-type4.ensures
+  check-expr-returns-7 : check-expr-asks check-expr-lts.Need-returns-in-6
+  check-expr-returns-7 c = let p = c.requires.1 in const_typing _ _ _ _ p.2 p.1 c.in-6.is c.has_type-in-6.ensures
 
-  check-expr-returns-8 : check-expr-asks check-expr-lts.Need-returns-8
-  check-expr-returns-8 c = neg_typing _ _ _ _ c.before.before.before.before.before.before.before.before.before.before.before.before.before.requires.1.2 c.before.before.before.before.before.before.before.before.match.keys8 c.before.before.before.before.before.before.check-expr.ensures c.before.before.negation.ensures
+  check-expr-returns-8 : check-expr-asks check-expr-lts.Need-returns-in-7
+  check-expr-returns-8 c = neg_typing _ _ _ _ c.requires.1.2 c.in-7.is c.check_expr-t.ensures c.negation.ensures
 
-  check-expr-returns-9 : check-expr-asks check-expr-lts.Need-returns-9
-  check-expr-returns-9 c = let h = c.before.before.before.before.before.before.before.before.before.before.before.before.before.before.before.before.before.before.before.requires.1.2 in pair_typing _ _ _ _ h (operation _ _ _ _ h (unlike 8 _ c.before.before.before.before.before.before.before.before.before.before.before.before.before.before.match.rest)) c.before.before.before.before.before.before.before.before.before.before.before.before.check-expr2.ensures c.before.before.before.before.before.before.before.check-expr3.ensures c.before.before.operation.ensures
+  check-expr-returns-9 : check-expr-asks check-expr-lts.Need-returns-in_default
+  check-expr-returns-9 c = let h = c.requires.1.2 in pair_typing _ _ _ _ h (operation _ _ _ _ h (unlike 8 _ c.in_default.in_default-own.rest)) c.check_expr-l.ensures c.check_expr-r.ensures c.operation.ensures
 
   check-expr-closed : {M : Type 1} → check-expr-lts.Closed check-expr-calls check-expr-at check-expr.Post M
   check-expr-closed =
       check-expr-lts.spec check-expr-calls check-expr-at check-expr.Post
-      (λ c. expr_in _ _ _ _ c.before.before.before.before.requires.1.2)  -- shared-slice-read-match: match tree[at] {
-      (λ c. let i = int_lit-inside _ _ _ _ c.before.before.before.before.before.requires.1.2 c.match.keys1 in omega arith)  -- add-has-type: 0 => cases::has_type(ClassicalType::Int, at + 17, sink),
+      (λ c. expr_in _ _ _ _ c.requires.1.2)  -- shared-slice-read-match: match tree[at] {
+      (λ c. let i = int_lit-inside _ _ _ _ c.requires.1.2 c.in-0.is in omega arith)  -- add-has-type: 0 => cases::has_type(ClassicalType::Int, at + 17, sink),
       (λ c κs. search rules)  -- has-type-requires
-      (λ c. let i = float_lit-inside _ _ _ _ c.before.before.before.before.before.requires.1.2 c.match.keys2 in omega arith)  -- add-has-type-2: 1 => cases::has_type(ClassicalType::Float, at + 11, sink),
+      (λ c. let i = float_lit-inside _ _ _ _ c.requires.1.2 c.in-1.is in omega arith)  -- add-has-type-2: 1 => cases::has_type(ClassicalType::Float, at + 11, sink),
       (λ c κs. search rules)  -- has-type-requires-2
-      (λ c. let i = bool_lit-inside _ _ _ _ c.before.before.before.before.before.requires.1.2 c.match.keys3 in omega arith)  -- add-has-type-3: 2 => cases::has_type(ClassicalType::Bool, at + 10, sink),
+      (λ c. let i = bool_lit-inside _ _ _ _ c.requires.1.2 c.in-2.is in omega arith)  -- add-has-type-3: 2 => cases::has_type(ClassicalType::Bool, at + 10, sink),
       (λ c κs. search rules)  -- has-type-requires-3
       check-expr-check-ident-requires check-expr-check-index-requires
-      (λ c κs. let p = c.before.before.before.before.before.before.requires.1 in (omega arith, (p.0, p.1, p.2, c.before.match.keys6)))  -- check-call-requires: 5 => check_call(tree, index, scratch, out, depth, at, left,  ..
-      (λ c. let i = const-inside _ _ _ _ c.before.before.before.before.before.requires.1.2 c.match.keys7 in omega arith)  -- add-has-type-4: 6 => cases::has_type(ClassicalType::Float, at + 10, sink),
+      (λ c κs. let p = c.requires.1 in (omega arith, (p.0, p.1, p.2, c.in-5.is)))  -- check-call-requires: 5 => check_call(tree, index, scratch, out, depth, at, left,  ..
+      (λ c. let i = const-inside _ _ _ _ c.requires.1.2 c.in-6.is in omega arith)  -- add-has-type-4: 6 => cases::has_type(ClassicalType::Float, at + 10, sink),
       (λ c κs. search rules)  -- has-type-requires-4
-      (λ c. let i = expr_in _ _ _ _ c.before.before.before.before.before.before.requires.1.2 in omega arith)  -- add-check-expr: let t = check_expr(tree, index, scratch, out, depth, at + 1, ..
-      (λ c. let l = expr_left _ _ _ _ c.before.before.before.before.before.before.requires.1.2 in omega arith)  -- sub-check-expr
+      (λ c. let i = expr_in _ _ _ _ c.requires.1.2 in omega arith)  -- add-check-expr: let t = check_expr(tree, index, scratch, out, depth, at + 1, ..
+      (λ c. let l = expr_left _ _ _ _ c.requires.1.2 in omega arith)  -- sub-check-expr
       check-expr-check-expr-requires check-expr-negation-requires
-      (λ c. let i = expr_in _ _ _ _ c.before.before.before.before.before.before.requires.1.2 in omega arith)  -- add-check-expr-2: let l = check_expr(tree, index, scratch, out, depth, at + 2, ..
-      (λ c. let l = expr_left _ _ _ _ c.before.before.before.before.before.before.requires.1.2 in omega arith)  -- sub-check-expr-2
+      (λ c. let i = expr_in _ _ _ _ c.requires.1.2 in omega arith)  -- add-check-expr-2: let l = check_expr(tree, index, scratch, out, depth, at + 2, ..
+      (λ c. let l = expr_left _ _ _ _ c.requires.1.2 in omega arith)  -- sub-check-expr-2
       check-expr-check-expr-requires-2
-      (λ c. let l = expr_left _ _ _ _ c.before.before.before.before.before.before.before.before.before.before.before.requires.1.2 in omega arith)  -- sub-check-expr-3: let r = check_expr(tree, index, scratch, out, depth, l.next, ..
+      (λ c. let l = expr_left _ _ _ _ c.requires.1.2 in omega arith)  -- sub-check-expr-3: let r = check_expr(tree, index, scratch, out, depth, l.next, ..
       check-expr-check-expr-requires-3
-      (λ c. expr_in _ _ _ _ c.before.before.before.before.before.before.before.before.before.before.before.before.before.before.before.before.requires.1.2)  -- shared-slice-read-operation: cases::operation(tree, index, out, tree[at], lhs, r)
+      (λ c. expr_in _ _ _ _ c.requires.1.2)  -- shared-slice-read-operation: cases::operation(tree, index, out, tree[at], lhs, r)
       check-expr-operation-requires
-      (λ c. let p = c.before.before.before.before.before.before.requires.1 in int_typing _ _ _ _ p.2 p.1 c.before.match.keys1 c.has-type.ensures)  -- returns: pub fn check_expr(
+      (λ c. let p = c.requires.1 in int_typing _ _ _ _ p.2 p.1 c.in-0.is c.has_type.ensures)  -- returns: pub fn check_expr(
       check-expr-returns-2
-      (λ c. let p = c.before.before.before.before.before.before.requires.1 in bool_typing _ _ _ _ p.2 p.1 c.before.match.keys3 c.has-type3.ensures)  -- returns-3
+      (λ c. let p = c.requires.1 in bool_typing _ _ _ _ p.2 p.1 c.in-2.is c.has_type-in-2.ensures)  -- returns-3
       (λ c. search rules)  -- same-length
       check-expr-returns-4
       (λ c. search rules)  -- same-length-2
       check-expr-returns-5
       (λ c. search rules)  -- same-length-3
-      (λ c. c.before.before.check-call.ensures)  -- returns-6
+      (λ c. c.check_call.ensures)  -- returns-6
       check-expr-returns-7
       (λ c. search rules)  -- same-length-4
       check-expr-returns-8
       (λ c. search rules)  -- same-length-5
       check-expr-returns-9
 
-pub +check-arguments-check-call-check-expr-spec : {M : Type 1} → statement M
-+check-arguments-check-call-check-expr-spec =
+pub +check_arguments_check_call_check_expr_spec : {M : Type 1} → statement M
++check_arguments_check_call_check_expr_spec =
     close μ-check-arguments μ-check-call μ-check-expr
     (λ t. check-arguments-closed t) (λ t. check-call-closed t) (λ t. check-expr-closed t)

@@ -7,11 +7,11 @@ use Rattle.typing.proofs.require_numeric.Tie as tie
 
 returns : tie.Need-returns
 unfolding require_numeric unmet
-returns c = c.before.before.require.ensures
+returns c = c.require.ensures
 
-pub require-numeric-spec : {M : Type 1} → statement M
-require-numeric-spec =
+pub require_numeric_spec : {M : Type 1} → statement M
+require_numeric_spec =
     tie.close (tie.spec
-    (λ c κs. let p = c.before.before.before.before.requires in (p.0, p.1, p.2, λ a. p.3))  -- require-requires
+    (λ c κs. let p = c.requires in (p.0, p.1, p.2, λ a. p.3))  -- require-requires
     (λ c. search rules)  -- same-length
     returns)

@@ -7,11 +7,11 @@ use Rattle.typing.proofs.require_type.Tie as tie
 
 returns : tie.Need-returns
 unfolding require_type unmet
-returns c = c.before.before.require.ensures
+returns c = c.require.ensures
 
-pub require-type-spec : {M : Type 1} → statement M
-require-type-spec =
+pub require_type_spec : {M : Type 1} → statement M
+require_type_spec =
     tie.close (tie.spec
-    (λ c κs. let p = c.before.before.before.before.requires in (p.0, p.1, p.2, λ a. tt))  -- require-requires
+    (λ c κs. let p = c.requires in (p.0, p.1, p.2, λ a. tt))  -- require-requires
     (λ c. search rules)  -- same-length
     returns)

@@ -4,8 +4,8 @@ use borrow.Author.Rules.{rules}
 use Rattle.operands.proofs.bounds.check_bounds.Statement.{statement}
 use Rattle.operands.proofs.bounds.check_bounds.Tie as tie
 
-pub check-bounds-spec : {M : Type 1} → statement M
-check-bounds-spec =
+pub check_bounds_spec : {M : Type 1} → statement M
+check_bounds_spec =
     tie.close (tie.spec
     (λ c κs. search rules)  -- indexes-wire-requires
     (λ c κs. search rules)  -- error-requires

@@ -6,9 +6,9 @@ use borrow.Author.Rules.{rules}
 use Rattle.operands.proofs.bounds.check_index.Statement.{statement}
 use Rattle.operands.proofs.bounds.check_index.Tie as tie
 
-pub check-index-spec : {M : Type 1} → statement M
+pub check_index_spec : {M : Type 1} → statement M
 unfolding index_fault_says
-check-index-spec =
+check_index_spec =
     tie.close (tie.spec
     (λ c κs. search rules)  -- index-fault-requires
     (λ c. search rules)  -- enum_told
@@ -16,8 +16,8 @@ check-index-spec =
     (λ c κs. search reporting)  -- report-declared-requires
     (λ c. search rules)  -- enum-known-i
     (λ c κs. search reporting)  -- report-declared-requires-2
-    (λ c. rw (← c.before.before.index-fault.ensures, c.enum_told.given.1) (emitted-none c.before.before.before.before.before.requires.2))  -- returns
+    (λ c. rw (← c.index_fault.ensures, c.in-None.is) (emitted-none c.requires.2))  -- returns
     (λ c. search rules)  -- same-length
-    (λ c. rw (← c.before.before.before.before.before.before.index-fault.ensures, c.before.before.before.before.enum-told2.given.1) (emitted-one c.before.before.report-declared.ensures))  -- returns-2
+    (λ c. rw (← c.index_fault.ensures, c.in-WithoutSize.is) (emitted-one c.report_declared.ensures))  -- returns-2
     (λ c. search rules)  -- same-length-2
-    (λ c. rw (← c.before.before.before.before.before.before.before.index-fault.ensures, c.before.before.before.before.before.i.given.1) (emitted-one c.before.before.report-declared2.ensures)))  -- returns-3
+    (λ c. rw (← c.index_fault.ensures, c.in-OutOfBounds.is) (emitted-one c.report_declared-in-OutOfBounds.ensures)))  -- returns-3

@@ -4,8 +4,8 @@ use borrow.Author.Rules.{rules}
 use Rattle.operands.proofs.bounds.check_kind.Statement.{statement}
 use Rattle.operands.proofs.bounds.check_kind.Tie as tie
 
-pub check-kind-spec : {M : Type 1} → statement M
-check-kind-spec =
+pub check_kind_spec : {M : Type 1} → statement M
+check_kind_spec =
     tie.close (tie.spec
     (λ c κs. search rules)  -- fits-requires
     (λ c. search kind-said)  -- returns

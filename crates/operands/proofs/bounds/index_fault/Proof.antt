@@ -6,9 +6,9 @@ use borrow.Author.Rules.{rules}
 use Rattle.operands.proofs.bounds.index_fault.Statement.{statement}
 use Rattle.operands.proofs.bounds.index_fault.Tie as tie
 
-pub index-fault-spec : {M : Type 1} → statement M
+pub index_fault_spec : {M : Type 1} → statement M
 unfolding index_fault_says index_says
-index-fault-spec =
+index_fault_spec =
     tie.close (tie.spec
     (λ c. search rules)  -- enum-known-at
     (λ c. search rules)  -- enum-told
@@ -16,5 +16,5 @@ index-fault-spec =
     (λ c. search rules)  -- enum-known-size
     (λ c. search rules)  -- enum-told-2
     (λ c. search rules)  -- returns-2
-    (λ c. rw (c.before.before.before.before.before.at.given.1, c.before.before.size.given.1, lt-ltb _ _ c.if1.true))  -- returns-3
-    (λ c. rw (c.before.before.before.before.before.at.given.1, c.before.before.size.given.1, le-ltb _ _ c.if1.false)))  -- returns-4
+    (λ c. rw (c.in-Some.is, c.in-Some-size.is, lt-ltb _ _ c.if-i-n.true))  -- returns-3
+    (λ c. rw (c.in-Some.is, c.in-Some-size.is, le-ltb _ _ c.if-i-n.false)))  -- returns-4

@@ -5,9 +5,9 @@ use borrow.Author.Rules.{rules}
 use Rattle.operands.proofs.bounds.slice_fault.Statement.{statement}
 use Rattle.operands.proofs.bounds.slice_fault.Tie as tie
 
-pub slice-fault-spec : {M : Type 1} → statement M
+pub slice_fault_spec : {M : Type 1} → statement M
 unfolding slice_fault_says slice_says
-slice-fault-spec =
+slice_fault_spec =
     tie.close (tie.spec
     (λ c. search rules)  -- enum-known-slice
     (λ c. search rules)  -- enum-told
@@ -16,5 +16,5 @@ slice-fault-spec =
     (λ c. search rules)  -- enum-told-2
     (λ c. search rules)  -- returns-2
     (λ c κs. search rules)  -- within-requires
-    (λ c. rw (c.before.before.before.before.before.before.slice.given.1, c.before.before.before.size.given.1, ← c.before.within.ensures, c.if1.true))  -- returns-3
-    (λ c. rw (c.before.before.before.before.before.before.slice.given.1, c.before.before.before.size.given.1, ← c.before.within.ensures, c.if1.false)))  -- returns-4
+    (λ c. rw (c.in-Some.is, c.in-Some-size.is, ← c.within.ensures, c.if-within.true))  -- returns-3
+    (λ c. rw (c.in-Some.is, c.in-Some-size.is, ← c.within.ensures, c.if-within.false)))  -- returns-4

@@ -4,9 +4,9 @@ use Rattle.sema.specs.Operands.{fits}
 use Rattle.operands.proofs.kinds.fits.Statement.{statement}
 use Rattle.operands.proofs.kinds.fits.Tie as tie
 
-pub fits-spec : {M : Type 1} → statement M
+pub fits_spec : {M : Type 1} → statement M
 unfolding fits
-fits-spec =
+fits_spec =
     tie.close (tie.spec
     (λ c. search rules)  -- enum-told
     (λ c κs. search rules)  -- is-qubit-requires

@@ -4,8 +4,8 @@ use borrow.Author.Rules.{rules}
 use Rattle.operands.proofs.kinds.indexes_wire.Statement.{statement}
 use Rattle.operands.proofs.kinds.indexes_wire.Tie as tie
 
-pub indexes-wire-spec : {M : Type 1} → statement M
-indexes-wire-spec =
+pub indexes_wire_spec : {M : Type 1} → statement M
+indexes_wire_spec =
     tie.close (tie.spec
     (λ c κs. search rules)  -- is-gate-qubit-requires
     (λ c κs. search rules)  -- is-subscripted-requires

@@ -4,9 +4,9 @@ use Rattle.sema.specs.Operands.{is_gate_qubit}
 use Rattle.operands.proofs.kinds.is_gate_qubit.Statement.{statement}
 use Rattle.operands.proofs.kinds.is_gate_qubit.Tie as tie
 
-pub is-gate-qubit-spec : {M : Type 1} → statement M
+pub is_gate_qubit_spec : {M : Type 1} → statement M
 unfolding is_gate_qubit
-is-gate-qubit-spec =
+is_gate_qubit_spec =
     tie.close (tie.spec
     (λ c. search rules)  -- enum-told
     (λ c. search rules)  -- enum-told-2

@@ -4,9 +4,9 @@ use Rattle.sema.specs.Operands.{fits}
 use Rattle.operands.proofs.kinds.is_qubit.Statement.{statement}
 use Rattle.operands.proofs.kinds.is_qubit.Tie as tie
 
-pub is-qubit-spec : {M : Type 1} → statement M
+pub is_qubit_spec : {M : Type 1} → statement M
 unfolding fits
-is-qubit-spec =
+is_qubit_spec =
     tie.close (tie.spec
     (λ c. search rules)  -- enum-told
     (λ c. search rules)  -- enum-told-2

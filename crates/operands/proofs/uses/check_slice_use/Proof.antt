@@ -5,8 +5,8 @@ use borrow.Author.Rules.{rules}
 use Rattle.operands.proofs.uses.check_slice_use.Statement.{statement}
 use Rattle.operands.proofs.uses.check_slice_use.Tie as tie
 
-pub check-slice-use-spec : {M : Type 1} → statement M
-check-slice-use-spec =
+pub check_slice_use_spec : {M : Type 1} → statement M
+check_slice_use_spec =
     tie.close (tie.spec
     (λ c κs. search rules)  -- smallest-requires
     (λ c. search rules)  -- enum-known-i

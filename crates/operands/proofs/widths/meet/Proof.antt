@@ -4,8 +4,8 @@ use borrow.Author.Rules.{rules}
 use Rattle.operands.proofs.widths.meet.Statement.{statement}
 use Rattle.operands.proofs.widths.meet.Tie as tie
 
-pub meet-spec : {M : Type 1} → statement M
-meet-spec =
+pub meet_spec : {M : Type 1} → statement M
+meet_spec =
     tie.close (tie.spec
     (λ c. search rules)  -- enum-known-width
     (λ c. search rules)  -- enum-told

@@ -4,8 +4,8 @@ use borrow.Author.Rules.{rules}
 use Rattle.operands.proofs.widths.meet_wide.Statement.{statement}
 use Rattle.operands.proofs.widths.meet_wide.Tie as tie
 
-pub meet-wide-spec : {M : Type 1} → statement M
-meet-wide-spec =
+pub meet_wide_spec : {M : Type 1} → statement M
+meet_wide_spec =
     tie.close (tie.spec
     (λ c. search rules)  -- enum-told
     (λ c. search rules)  -- enum-known-met

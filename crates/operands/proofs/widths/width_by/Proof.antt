@@ -4,8 +4,8 @@ use borrow.Author.Rules.{rules}
 use Rattle.operands.proofs.widths.width_by.Statement.{statement}
 use Rattle.operands.proofs.widths.width_by.Tie as tie
 
-pub width-by-spec : {M : Type 1} → statement M
-width-by-spec =
+pub width_by_spec : {M : Type 1} → statement M
+width_by_spec =
     tie.close (tie.spec
     (λ c. search rules)  -- enum-known-slice
     (λ c κs. search rules)  -- slice-width-requires

@@ -4,17 +4,17 @@ use borrow.Author.Rules.{rules}
 use Rattle.typing.proofs.cases.check_ident.Statement.{statement}
 use Rattle.typing.proofs.cases.check_ident.Tie as tie
 
-returns : tie.Need-returns
-returns c = ident-missing _ _ _ c.before.before.before.before.before.before.get.ensures c.before.before.before.before.before.before.before.before.u16-at.ensures.0 c.before.before.before.before.before.before.before.span-at.ensures c.before.before.before.before.enum_told.given.1 c.before.before.refuse.ensures
+returns : tie.Need-returns-in_default
+returns c = ident-missing _ _ _ c.get.ensures c.u16_at-x.ensures.0 c.span_at-span.ensures c.in_default.is c.refuse.ensures
 
-ident-type-requires : tie.Need-ident-type-requires
-ident-type-requires c κs = let p = c.before.before.before.before.before.before.before.before.before.before.requires in (p.0.texts, p.1, name_below c.before.before.before.before.before.before.u16-at.ensures.0 p.3)
+ident-type-requires : tie.Need-ident_type-requires
+ident-type-requires c κs = let p = c.requires in (p.0.texts, p.1, name_below c.u16_at-x.ensures.0 p.3)
 
-returns-2 : tie.Need-returns-2
-returns-2 c = ident-there _ _ _ c.before.before.before.before.before.before.before.get.ensures c.before.before.before.before.before.before.before.before.before.u16-at.ensures.0 c.before.before.before.before.before.before.before.before.span-at.ensures c.before.before.before.before.before.symbol.given.1 c.before.before.ident-type.ensures
+returns-2 : tie.Need-returns
+returns-2 c = ident-there _ _ _ c.get.ensures c.u16_at-x.ensures.0 c.span_at-span.ensures c.in-Some.is c.ident_type.ensures
 
-pub check-ident-spec : {M : Type 1} → statement M
-check-ident-spec =
+pub check_ident_spec : {M : Type 1} → statement M
+check_ident_spec =
     tie.close (tie.spec
     (λ c. search rules)  -- add-u16-at
     (λ c κs. search rules)  -- u16-at-requires

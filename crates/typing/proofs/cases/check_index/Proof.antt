@@ -4,17 +4,17 @@ use borrow.Author.Rules.{rules}
 use Rattle.typing.proofs.cases.check_index.Statement.{statement}
 use Rattle.typing.proofs.cases.check_index.Tie as tie
 
-returns : tie.Need-returns
-returns c = index-missing _ _ _ c.before.before.before.before.before.before.get.ensures c.before.before.before.before.before.before.before.before.before.u16-at.ensures.0 c.before.before.before.before.before.before.before.span-at.ensures c.before.before.before.before.before.before.before.before.u64-at.ensures c.before.before.before.before.enum_told.given.1 c.before.before.refuse.ensures
+returns : tie.Need-returns-in_default
+returns c = index-missing _ _ _ c.get.ensures c.u16_at-x.ensures.0 c.span_at-span.ensures c.u64_at-i.ensures c.in_default.is c.refuse.ensures
 
-index-type-requires : tie.Need-index-type-requires
-index-type-requires c κs = let p = c.before.before.before.before.before.before.before.before.before.before.before.requires in (p.0.texts, p.1, name_below c.before.before.before.before.before.before.before.u16-at.ensures.0 p.3)
+index-type-requires : tie.Need-index_type-requires
+index-type-requires c κs = let p = c.requires in (p.0.texts, p.1, name_below c.u16_at-x.ensures.0 p.3)
 
-returns-2 : tie.Need-returns-2
-returns-2 c = index-there _ _ _ c.before.before.before.before.before.before.before.get.ensures c.before.before.before.before.before.before.before.before.before.before.u16-at.ensures.0 c.before.before.before.before.before.before.before.before.span-at.ensures c.before.before.before.before.before.symbol.given.1 c.before.before.before.before.before.before.before.before.before.u64-at.ensures c.before.before.index-type.ensures
+returns-2 : tie.Need-returns
+returns-2 c = index-there _ _ _ c.get.ensures c.u16_at-x.ensures.0 c.span_at-span.ensures c.in-Some.is c.u64_at-i.ensures c.index_type.ensures
 
-pub check-index-spec : {M : Type 1} → statement M
-check-index-spec =
+pub check_index_spec : {M : Type 1} → statement M
+check_index_spec =
     tie.close (tie.spec
     (λ c. search rules)  -- add-u16-at
     (λ c κs. search rules)  -- u16-at-requires

@@ -4,17 +4,17 @@ use borrow.Author.Rules.{rules}
 use Rattle.typing.proofs.cases.comparable.Statement.{statement}
 use Rattle.typing.proofs.cases.comparable.Tie as tie
 
-returns : tie.Need-returns
-returns c = comparable-same c.before.before.before.args.a c.before.before.before.args.b c.before.before.number.ensures.0 c.before.number2.ensures.0 c.if1.true
+returns : tie.Need-returns-then-number
+returns c = comparable-same c.args.a c.args.b c.number.ensures.0 c.number-2.ensures.0 c.if-number.true
 
-returns-2 : tie.Need-returns-2
-returns-2 c = comparable-numeric c.before.before.before.before.before.before.args.a c.before.before.before.before.before.before.args.b c.before.before.before.before.before.number.ensures.0 c.before.before.before.before.number2.ensures.0 c.before.before.before.if1.false c.before.before.is-numeric.ensures c.before.if2.true c.is-numeric2.ensures
+returns-2 : tie.Need-returns-then-is_numeric
+returns-2 c = comparable-numeric c.args.a c.args.b c.number.ensures.0 c.number-2.ensures.0 c.if-number.false c.is_numeric.ensures c.if-is_numeric.true c.is_numeric-then-is_numeric.ensures
 
-returns-3 : tie.Need-returns-3
-returns-3 c = comparable-neither c.before.before.before.before.before.args.a c.before.before.before.before.before.args.b c.before.before.before.before.number.ensures.0 c.before.before.before.number2.ensures.0 c.before.before.if1.false c.before.is-numeric.ensures c.if2.false
+returns-3 : tie.Need-returns
+returns-3 c = comparable-neither c.args.a c.args.b c.number.ensures.0 c.number-2.ensures.0 c.if-number.false c.is_numeric.ensures c.if-is_numeric.false
 
-pub comparable-spec : {M : Type 1} → statement M
-comparable-spec =
+pub comparable_spec : {M : Type 1} → statement M
+comparable_spec =
     tie.close (tie.spec
     (λ c κs. search rules)  -- number-requires
     (λ c κs. search rules)  -- number-requires-2

@@ -5,20 +5,20 @@ use borrow.Author.Rules.{rules}
 use Rattle.typing.proofs.cases.index_type.Statement.{statement}
 use Rattle.typing.proofs.cases.index_type.Tie as tie
 
-returns : tie.Need-returns
-returns c = index-other _ _ _ c.before.before.before.before.before.before.before.before.args.symbol c.before.before.before.before.before.is-bit.ensures (not-true _ c.before.before.before.before.if1.true) c.before.before.refuse.ensures
+returns : tie.Need-returns-then-not-is_bit
+returns c = index-other _ _ _ c.args.symbol c.is_bit.ensures c.if-not-is_bit.true c.refuse.ensures
 
-returns-2 : tie.Need-returns-2
-returns-2 c = index_unsized _ _ _ c.before.before.before.before.before.before.before.before.before.before.args.symbol c.before.before.before.before.before.before.before.is-bit.ensures (not-false _ c.before.before.before.before.before.before.if1.false) c.before.before.before.before.enum_told.given.1 c.before.before.refuse2.ensures
+returns-2 : tie.Need-returns-in_default
+returns-2 c = index_unsized _ _ _ c.args.symbol c.is_bit.ensures c.if-not-is_bit.false c.in_default.is c.refuse-in_default.ensures
 
-returns-3 : tie.Need-returns-3
-returns-3 c = index-inside _ _ _ c.before.before.before.before.before.before.before.before.before.args.symbol c.before.before.before.before.before.before.is-bit.ensures (not-false _ c.before.before.before.before.before.if1.false) c.before.before.before.size.given.1 c.before.if2.true c.before.before.before.before.before.before.before.before.before.requires.1 c.has-type.ensures
+returns-3 : tie.Need-returns-then-i-n
+returns-3 c = index-inside _ _ _ c.args.symbol c.is_bit.ensures c.if-not-is_bit.false c.in-Some.is c.if-i-n.true c.requires.1 c.has_type.ensures
 
-returns-4 : tie.Need-returns-4
-returns-4 c = index-beyond _ _ _ c.before.before.before.before.before.before.before.before.before.before.before.before.args.symbol c.before.before.before.before.before.before.before.before.before.is-bit.ensures (not-false _ c.before.before.before.before.before.before.before.before.if1.false) c.before.before.before.before.before.before.size.given.1 c.before.before.before.before.if2.false c.before.before.refuse3.ensures
+returns-4 : tie.Need-returns
+returns-4 c = index-beyond _ _ _ c.args.symbol c.is_bit.ensures c.if-not-is_bit.false c.in-Some.is c.if-i-n.false c.refuse-2.ensures
 
-pub index-type-spec : {M : Type 1} → statement M
-index-type-spec =
+pub index_type_spec : {M : Type 1} → statement M
+index_type_spec =
     tie.close (tie.spec
     (λ c κs. search rules)  -- is-bit-requires
     (λ c κs. search rules)  -- refuse-requires

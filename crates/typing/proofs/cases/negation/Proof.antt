@@ -4,19 +4,19 @@ use borrow.Author.Rules.{rules}
 use Rattle.typing.proofs.cases.negation.Statement.{statement}
 use Rattle.typing.proofs.cases.negation.Tie as tie
 
-returns-2 : tie.Need-returns-2
-returns-2 c = neg-typed c.before.before.before.before.before.before.before.before.before.before.requires.1 _ c.before.before.before.before.found.given.1 c.before.before.is-numeric.ensures c.before.if1.true c.has-type.ensures
+returns-2 : tie.Need-returns-then-is_numeric
+returns-2 c = neg-typed c.requires.1 _ c.in-Type.is c.is_numeric.ensures c.if-is_numeric.true c.has_type.ensures
 
-returns-3 : tie.Need-returns-3
-returns-3 c = neg-refused c.before.before.before.before.span-at.ensures c.before.before.before.before.before.before.before.before.found.given.1 c.before.before.before.before.before.before.is-numeric.ensures c.before.before.before.before.before.if1.false c.before.before.refuse.ensures
+returns-3 : tie.Need-returns
+returns-3 c = neg-refused c.span_at-span.ensures c.in-Type.is c.is_numeric.ensures c.if-is_numeric.false c.refuse.ensures
 
-pub negation-spec : {M : Type 1} → statement M
-negation-spec =
+pub negation_spec : {M : Type 1} → statement M
+negation_spec =
     tie.close (tie.spec
     (λ c. search rules)  -- add-next
     (λ c. search rules)  -- enum-known-found
     (λ c. search rules)  -- enum_told
-    (λ c. neg-untyped c.before.before.before.before.before.before.requires.1 _ c.enum_told.given.1)  -- returns
+    (λ c. neg-untyped c.requires.1 _ c.in_default.is)  -- returns
     (λ c κs. search rules)  -- is-numeric-requires
     (λ c κs. search rules)  -- has-type-requires
     returns-2

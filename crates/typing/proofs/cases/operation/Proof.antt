@@ -4,23 +4,23 @@ use borrow.Author.Rules.{rules}
 use Rattle.typing.proofs.cases.operation.Statement.{statement}
 use Rattle.typing.proofs.cases.operation.Tie as tie
 
-returns : tie.Need-returns
-returns c = operation-left c.before.before.before.before.before.before.requires.1 _ _ c.before.before.before.before.before.before.args.t.typed c.enum_told.given.1
+returns : tie.Need-returns-in_default
+returns c = operation-left c.requires.1 _ _ c.args.t.typed c.in_default.is
 
-returns-2 : tie.Need-returns-2
-returns-2 c = operation-right c.before.before.before.before.before.before.before.before.before.requires.1 _ _ c.before.before.before.l.given.1 c.enum-told2.given.1
+returns-2 : tie.Need-returns-in_default-found
+returns-2 c = operation-right c.requires.1 _ _ c.in-Type.is c.in_default-found.is
 
 refuse-requires : tie.Need-refuse-requires
-refuse-requires c κs = let p = c.before.before.before.before.before.before.before.before.before.before.before.before.before.before.before.before.requires in (p.0, p.1, pair_named c.before.before.before.before.before.before.before.before.before.before.before.before.before.before.before.before.args.case _ c.before.before.pair-message.ensures)
+refuse-requires c κs = let p = c.requires in (p.0, p.1, pair_named c.args.case _ c.pair_message-message.ensures)
 
-returns-3 : tie.Need-returns-3
-returns-3 c = operation-refused c.before.before.before.before.span-at.ensures _ c.before.before.before.before.before.before.before.before.before.before.before.before.before.l.given.1 c.before.before.before.before.before.before.before.before.before.before.found.given.1 c.before.before.before.before.before.before.before.before.pair-type.ensures c.before.before.before.before.before.before.enum-told3.given.1 c.before.before.before.before.before.pair-message.ensures c.before.before.refuse.ensures
+returns-3 : tie.Need-returns-in_default-result
+returns-3 c = operation-refused c.span_at-span.ensures _ c.in-Type.is c.in-Type-found.is c.pair_type-result.ensures c.in_default-result.is c.pair_message-message.ensures c.refuse.ensures
 
-returns-4 : tie.Need-returns-4
-returns-4 c = operation-typed c.before.before.before.before.before.before.before.before.before.before.before.before.before.before.before.requires.1 _ _ c.before.before.before.before.before.before.before.before.before.l.given.1 c.before.before.before.before.before.before.found.given.1 c.before.before.before.before.pair-type.ensures c.before.before.result.given.1 c.has-type.ensures
+returns-4 : tie.Need-returns
+returns-4 c = operation-typed c.requires.1 _ _ c.in-Type.is c.in-Type-found.is c.pair_type-result.ensures c.in-Type-result.is c.has_type.ensures
 
-pub operation-spec : {M : Type 1} → statement M
-operation-spec =
+pub operation_spec : {M : Type 1} → statement M
+operation_spec =
     tie.close (tie.spec
     (λ c. search rules)  -- add-next
     (λ c. search rules)  -- enum-known-l

@@ -5,10 +5,10 @@ use borrow.Author.Rules.{rules}
 use Rattle.typing.proofs.cases.refuse.Statement.{statement}
 use Rattle.typing.proofs.cases.refuse.Tie as tie
 
-pub refuse-spec : {M : Type 1} → statement M
-refuse-spec =
+pub refuse_spec : {M : Type 1} → statement M
+refuse_spec =
     tie.close (tie.spec
     (λ c κs. search rules)  -- error-requires
-    (λ c κs. let p = c.before.before.before.before.requires in (p.0, error-fits c.error.ensures p.2, p.1))  -- report-requires
+    (λ c κs. let p = c.requires in (p.0, error-fits c.error.ensures p.2, p.1))  -- report-requires
     (λ c. search rules)  -- same-length
-    (λ c. found-error c.before.before.before.error.ensures c.before.before.report.ensures))  -- returns
+    (λ c. found-error c.error.ensures c.report-after.ensures))  -- returns
