@@ -42,8 +42,8 @@ module _ (t : List Text) (left : ℕ) (s : List ℕ) (at : ℕ) (h : IsOk (stmt 
       let ops = gate_call-args t left s at h b c.next p.next m e in
       record {
         name = g;
-        params-at = p.next;
-        args-at = e;
+        params_at = p.next;
+        args_at = e;
         end = f;
         span = l;
         params = i ∙ sym (exprs-size (held t) s c.next ps);

@@ -5,10 +5,10 @@ use Rattle.accepted.specs.Stmts.{while_loop-condition}
 use Rattle.bodies.proofs.open_while.Statement.{statement}
 use Rattle.bodies.proofs.open_while.Tie as tie
 
-pub open-while-spec : {M : Type 1} → statement M
-open-while-spec =
+pub open_while_spec : {M : Type 1} → statement M
+open_while_spec =
     tie.close (tie.spec
-    (λ c κs. let s = c.before.before.before.before.before in (s.requires.0, s.requires.1, s.requires.2, s.requires.3, stmt_in _ _ _ _ s.requires.4, while_loop-condition _ _ _ _ s.requires.4 s.requires.6, stmt-left _ _ _ _ s.requires.4, s.requires.5))  -- open-condition-requires
+    (λ c κs. let s = c in (s.requires.0, s.requires.1, s.requires.2, s.requires.3, stmt_in _ _ _ _ s.requires.4, while_loop-condition _ _ _ _ s.requires.4 s.requires.6, stmt-left _ _ _ _ s.requires.4, s.requires.5))  -- open-condition-requires
     (λ c. search rules)  -- same-length
     (λ c. search rules)  -- same-length-2
     (λ c. search rules))  -- returns

@@ -4,8 +4,8 @@ use Rattle.declarations.proofs.Targets.{target_none, target_some}
 use Rattle.declarations.proofs.check_target.Statement.{statement}
 use Rattle.declarations.proofs.check_target.Tie as tie
 
-pub check-target-spec : {M : Type 1} → statement M
-check-target-spec =
+pub check_target_spec : {M : Type 1} → statement M
+check_target_spec =
     tie.close (tie.spec
     (λ c κs. search rules)  -- get-requires
     (λ c. search rules)  -- enum-known-found

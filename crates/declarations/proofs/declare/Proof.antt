@@ -6,11 +6,11 @@ use Rattle.declarations.proofs.declare.Tie as tie
 
 returns : tie.Need-returns
 returns c =
-    let b = c.before.before.before.before.before.before.declare.ensures in
-    declared c.before.before.before.before.before.before.declare.result b.0 b.1.0 b.1.1 c.before.before.report-declared.ensures
+    let b = c.declare-found.ensures in
+    declared c.declare-found.result b.0 b.1.0 b.1.1 c.report_declared.ensures
 
-pub declare-spec : {M : Type 1} → statement M
-declare-spec =
+pub declare_spec : {M : Type 1} → statement M
+declare_spec =
     tie.close (tie.spec
     (λ c κs. search rules)  -- declare-requires
     (λ c κs. search rules)  -- report-declared-requires

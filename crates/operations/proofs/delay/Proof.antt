@@ -9,14 +9,14 @@ use native.Mathlib.Omega.{arith}
 use Rattle.operations.proofs.delay.Statement.{statement}
 use Rattle.operations.proofs.delay.Tie as tie
 
-pub delay-spec : {M : Type 1} → statement M
-delay-spec =
+pub delay_spec : {M : Type 1} → statement M
+delay_spec =
     tie.close (tie.spec
     (λ c. search rules)  -- sub-require-numeric
-    (λ c. let s = c.before.before.before.before in let i = stmt_in _ _ _ _ s.requires.2 in omega arith)  -- add-require-numeric
-    (λ c κs. let s = c.before.before.before.before in (record { texts = s.requires.0.texts; room = s.requires.1.room; deep = search rules }, s.requires.1.fits, delay_duration _ _ _ _ s.requires.2 s.requires.4, tt))  -- require-numeric-requires
+    (λ c. let s = c in let i = stmt_in _ _ _ _ s.requires.2 in omega arith)  -- add-require-numeric
+    (λ c κs. let s = c in (record { texts = s.requires.0.texts; room = s.requires.1.room; deep = search rules }, s.requires.1.fits, delay_duration _ _ _ _ s.requires.2 s.requires.4, tt))  -- require-numeric-requires
     (λ c. search rules)  -- sub-use-targets
-    (λ c κs. let s = c.before.before.before.before.before.before.before.before.before in let n = c.before.before.before.before.require-numeric.ensures.next in (s.requires.0, s.requires.1.room, search rules, s.requires.1.placed, c.before.before.before.before.require-numeric.ensures.emitted.fits, delay_targets _ _ _ _ s.requires.2 s.requires.4 _ n, delay-inside _ _ _ _ s.requires.2 s.requires.4 _ n _ refl))  -- use-targets-requires
-    (λ c. let s = c.before.before.before.before.before.before.before.before.before.before.before.before.before.before in let i = delay-inside _ _ _ _ s.requires.2 s.requires.4 _ c.before.before.before.before.before.before.before.before.before.require-numeric.ensures.next _ c.before.before.before.before.use-targets.ensures.next in omega arith)  -- add-t17
+    (λ c κs. let s = c in let n = c.require_numeric-a.ensures.next in (s.requires.0, s.requires.1.room, search rules, s.requires.1.placed, c.require_numeric-a.ensures.emitted.fits, delay_targets _ _ _ _ s.requires.2 s.requires.4 _ n, delay-inside _ _ _ _ s.requires.2 s.requires.4 _ n _ refl))  -- use-targets-requires
+    (λ c. let s = c in let i = delay-inside _ _ _ _ s.requires.2 s.requires.4 _ c.require_numeric-a.ensures.next _ c.use_targets-b.ensures.next in omega arith)  -- add-t17
     (λ c. search rules)  -- same-length
-    (λ c. let s = c.before.before.before.before.before.before.before.before.before.before.before.before.before.before in delay-walked _ _ _ _ (state_of s.args.at s.args.sink _) s.requires.2 s.requires.1 s.requires.4 _ c.before.before.before.before.before.before.before.before.before.require-numeric.ensures _ c.before.before.before.before.use-targets.ensures))  -- returns
+    (λ c. let s = c in delay-walked _ _ _ _ (state_of s.args.at s.args.sink _) s.requires.2 s.requires.1 s.requires.4 _ c.require_numeric-a.ensures _ c.use_targets-b.ensures))  -- returns

@@ -7,8 +7,8 @@ use Rattle.promises.specs.WalkLaws.{passed-ready}
 use Rattle.operations.proofs.include.Statement.{statement}
 use Rattle.operations.proofs.include.Tie as tie
 
-pub include-spec : {M : Type 1} → statement M
-include-spec =
+pub include_spec : {M : Type 1} → statement M
+include_spec =
     tie.close (tie.spec
     (λ c. let i = include-inside _ _ _ _ c.requires.1 c.requires.3 in omega arith)  -- add-t11
     (λ c. λ keys marks placed. include-walked _ _ keys _ (state_of _ _ marks) c.requires.1 (passed-ready c.requires.0 placed) c.requires.3))  -- returns

@@ -7,13 +7,13 @@ use Rattle.declarations.proofs.Classical.{qualifier-none, qualifier-const, quali
 use Rattle.declarations.proofs.parts.qualifier_at.Statement.{statement}
 use Rattle.declarations.proofs.parts.qualifier_at.Tie as tie
 
-pub qualifier-at-spec : {M : Type 1} → statement M
-qualifier-at-spec =
+pub qualifier_at_spec : {M : Type 1} → statement M
+qualifier_at_spec =
     tie.close (tie.spec
-    (λ c. option_in _ _ _ c.before.requires)  -- shared-slice-read-if1
-    (λ c. qualifier-none _ _ c.before.before.requires c.if1.true)  -- returns
-    (λ c. let i = option_in _ _ _ c.before.before.requires in omega arith)  -- add-match
-    (λ c. some_qualifier_in _ _ c.before.before.before.requires c.before.if1.false)  -- shared-slice-read-match
-    (λ c. qualifier-const _ _ c.before.before.before.before.requires c.before.before.if1.false c.match.keys1)  -- returns-2
-    (λ c. qualifier_input _ _ c.before.before.before.before.requires c.before.before.if1.false c.match.keys2)  -- returns-3
-    (λ c. qualifier_output _ _ c.before.before.before.before.requires c.before.before.if1.false (search rules) (search rules)))  -- returns-4
+    (λ c. option_in _ _ _ c.requires)  -- shared-slice-read-if1
+    (λ c. qualifier-none _ _ c.requires c.if-tree-at-eq0.true)  -- returns
+    (λ c. let i = option_in _ _ _ c.requires in omega arith)  -- add-match
+    (λ c. some_qualifier_in _ _ c.requires c.if-tree-at-eq0.false)  -- shared-slice-read-match
+    (λ c. qualifier-const _ _ c.requires c.if-tree-at-eq0.false c.in-0.is)  -- returns-2
+    (λ c. qualifier_input _ _ c.requires c.if-tree-at-eq0.false c.in-1.is)  -- returns-3
+    (λ c. qualifier_output _ _ c.requires c.if-tree-at-eq0.false (search rules) (search rules)))  -- returns-4

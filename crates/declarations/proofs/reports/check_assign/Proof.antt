@@ -4,8 +4,8 @@ use Rattle.declarations.proofs.Sayings.{assign_none, assign_some}
 use Rattle.declarations.proofs.reports.check_assign.Statement.{statement}
 use Rattle.declarations.proofs.reports.check_assign.Tie as tie
 
-pub check-assign-spec : {M : Type 1} → statement M
-check-assign-spec =
+pub check_assign_spec : {M : Type 1} → statement M
+check_assign_spec =
     tie.close (tie.spec
     (λ c. search rules)  -- enum-known-found
     (λ c. search rules)  -- enum-told

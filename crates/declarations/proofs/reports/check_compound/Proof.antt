@@ -4,8 +4,8 @@ use Rattle.declarations.proofs.Sayings.{plain_assign, numeric_assign, compound-r
 use Rattle.declarations.proofs.reports.check_compound.Statement.{statement}
 use Rattle.declarations.proofs.reports.check_compound.Tie as tie
 
-pub check-compound-spec : {M : Type 1} → statement M
-check-compound-spec =
+pub check_compound_spec : {M : Type 1} → statement M
+check_compound_spec =
     tie.close (tie.spec
     (λ c. search plain_assign)  -- returns
     (λ c κs. search rules)  -- are-numeric-requires

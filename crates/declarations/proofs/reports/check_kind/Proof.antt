@@ -4,8 +4,8 @@ use Rattle.declarations.proofs.Sayings.{refusal-below, kind-refused, kind-assign
 use Rattle.declarations.proofs.reports.check_kind.Statement.{statement}
 use Rattle.declarations.proofs.reports.check_kind.Tie as tie
 
-pub check-kind-spec : {M : Type 1} → statement M
-check-kind-spec =
+pub check_kind_spec : {M : Type 1} → statement M
+check_kind_spec =
     tie.close (tie.spec
     (λ c κs. search rules)  -- target-type-requires
     (λ c. search rules)  -- enum-known-found

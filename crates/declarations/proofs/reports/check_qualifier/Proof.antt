@@ -4,8 +4,8 @@ use Rattle.declarations.proofs.Classical.{const-given, const_absent, input_absen
 use Rattle.declarations.proofs.reports.check_qualifier.Statement.{statement}
 use Rattle.declarations.proofs.reports.check_qualifier.Tie as tie
 
-pub check-qualifier-spec : {M : Type 1} → statement M
-check-qualifier-spec =
+pub check_qualifier_spec : {M : Type 1} → statement M
+check_qualifier_spec =
     tie.close (tie.spec
     (λ c κs. search rules)  -- report-error-requires
     (λ c. search rules)  -- same-length

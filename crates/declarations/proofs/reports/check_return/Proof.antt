@@ -4,8 +4,8 @@ use Rattle.declarations.proofs.Sayings.{mismatch-none, mismatch-some}
 use Rattle.declarations.proofs.reports.check_return.Statement.{statement}
 use Rattle.declarations.proofs.reports.check_return.Tie as tie
 
-pub check-return-spec : {M : Type 1} → statement M
-check-return-spec =
+pub check_return_spec : {M : Type 1} → statement M
+check_return_spec =
     tie.close (tie.spec
     (λ c. search rules)  -- enum-known-found
     (λ c. search rules)  -- enum-told

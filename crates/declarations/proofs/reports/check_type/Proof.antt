@@ -4,8 +4,8 @@ use Rattle.declarations.proofs.Sayings.{type-taken, type-refused}
 use Rattle.declarations.proofs.reports.check_type.Statement.{statement}
 use Rattle.declarations.proofs.reports.check_type.Tie as tie
 
-pub check-type-spec : {M : Type 1} → statement M
-check-type-spec =
+pub check_type_spec : {M : Type 1} → statement M
+check_type_spec =
     tie.close (tie.spec
     (λ c κs. search rules)  -- assignable-requires
     (λ c. search type-taken)  -- returns

@@ -4,8 +4,8 @@ use Rattle.declarations.proofs.Sayings.{mismatch-none, mismatch-some}
 use Rattle.declarations.proofs.reports.check_value.Statement.{statement}
 use Rattle.declarations.proofs.reports.check_value.Tie as tie
 
-pub check-value-spec : {M : Type 1} → statement M
-check-value-spec =
+pub check_value_spec : {M : Type 1} → statement M
+check_value_spec =
     tie.close (tie.spec
     (λ c. search rules)  -- enum-known-found
     (λ c. search rules)  -- enum-told

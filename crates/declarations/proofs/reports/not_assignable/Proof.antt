@@ -3,8 +3,8 @@ use borrow.Author.Rules.{rules}
 use Rattle.declarations.proofs.reports.not_assignable.Statement.{statement}
 use Rattle.declarations.proofs.reports.not_assignable.Tie as tie
 
-pub not-assignable-spec : {M : Type 1} → statement M
-not-assignable-spec =
+pub not_assignable_spec : {M : Type 1} → statement M
+not_assignable_spec =
     tie.close (tie.spec
     (λ c. search rules)  -- enum-told
     (λ c. search rules)  -- enum-told-2

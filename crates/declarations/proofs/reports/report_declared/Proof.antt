@@ -4,8 +4,8 @@ use Rattle.declarations.proofs.Sayings.{declared-none, declared-some}
 use Rattle.declarations.proofs.reports.report_declared.Statement.{statement}
 use Rattle.declarations.proofs.reports.report_declared.Tie as tie
 
-pub report-declared-spec : {M : Type 1} → statement M
-report-declared-spec =
+pub report_declared_spec : {M : Type 1} → statement M
+report_declared_spec =
     tie.close (tie.spec
     (λ c. search rules)  -- enum-known-found
     (λ c. search rules)  -- enum-told

@@ -3,8 +3,8 @@ use borrow.Author.Rules.{rules}
 use Rattle.declarations.proofs.reports.target_type.Statement.{statement}
 use Rattle.declarations.proofs.reports.target_type.Tie as tie
 
-pub target-type-spec : {M : Type 1} → statement M
-target-type-spec =
+pub target_type_spec : {M : Type 1} → statement M
+target_type_spec =
     tie.close (tie.spec
     (λ c. search rules)  -- enum-told
     (λ c. search rules)  -- enum-told-2

@@ -4,8 +4,8 @@ use borrow.Author.Rules.{rules}
 use Rattle.operations.proofs.calls.fits_arity.Statement.{statement}
 use Rattle.operations.proofs.calls.fits_arity.Tie as tie
 
-pub fits-arity-spec : {M : Type 1} → statement M
-fits-arity-spec =
+pub fits_arity_spec : {M : Type 1} → statement M
+fits_arity_spec =
     tie.close (tie.spec
     (λ c κs. search rules)  -- is-arity-requires
     (λ c. search arity_asked)  -- returns

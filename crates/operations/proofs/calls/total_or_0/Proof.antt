@@ -4,8 +4,8 @@ use borrow.Author.Rules.{rules}
 use Rattle.operations.proofs.calls.total_or_0.Statement.{statement}
 use Rattle.operations.proofs.calls.total_or_0.Tie as tie
 
-pub total-or-0-spec : {M : Type 1} → statement M
-total-or-0-spec =
+pub total_or_0_spec : {M : Type 1} → statement M
+total_or_0_spec =
     tie.close (tie.spec
     (λ c. search rules)  -- enum-known-controls
     (λ c. search rules)  -- enum-told

@@ -4,10 +4,10 @@ use borrow.Author.Rules.{rules}
 use Rattle.operations.proofs.measures.check_target.Statement.{statement}
 use Rattle.operations.proofs.measures.check_target.Tie as tie
 
-pub check-target-spec : {M : Type 1} → statement M
-check-target-spec =
+pub check_target_spec : {M : Type 1} → statement M
+check_target_spec =
     tie.close (tie.spec
-    (λ c κs. let p = c.before.before.before.before.requires in (p.0, p.1, p.2, p.4, p.5))  -- check-operand-requires
-    (λ c κs. let p = c.before.before.before.before.before.before.before.before.requires in (p.0, p.1, p.2, p.3, p.4, c.before.before.before.check-operand.ensures.fits))  -- check-measure-widths-requires
+    (λ c κs. let p = c.requires in (p.0, p.1, p.2, p.4, p.5))  -- check-operand-requires
+    (λ c κs. let p = c.requires in (p.0, p.1, p.2, p.3, p.4, c.check_operand-s.ensures.fits))  -- check-measure-widths-requires
     (λ c. search rules)  -- same-length
-    (λ c. target_said _ _ _ _ c.before.before.before.before.before.before.check-operand.ensures c.before.before.check-measure-widths.ensures))  -- returns
+    (λ c. target_said _ _ _ _ c.check_operand-s.ensures c.check_measure_widths.ensures))  -- returns

@@ -5,12 +5,12 @@ use native.Mathlib.Omega.{arith}
 use Rattle.operations.proofs.measures.warn_measured.Statement.{statement}
 use Rattle.operations.proofs.measures.warn_measured.Tie as tie
 
-pub warn-measured-spec : {M : Type 1} → statement M
-warn-measured-spec =
+pub warn_measured_spec : {M : Type 1} → statement M
+warn_measured_spec =
     tie.close (tie.spec
-    (λ c κs. let p = c.before.before.requires in let few = p.0.texts.few in (p.0.indexed, (p.0.distinct, omega arith)))  -- lookup-requires
-    (λ c. measured-first _ _ _ _ _ _ c.before.lookup.ensures _ c.if1.true c.before.before.before.before.requires.2)  -- returns
+    (λ c κs. let p = c.requires in let few = p.0.texts.few in (p.0.indexed, (p.0.distinct, omega arith)))  -- lookup-requires
+    (λ c. measured-first _ _ _ _ _ _ c.lookup.ensures _ c.if-lookup-eq0.true c.requires.2)  -- returns
     (λ c κs. tt)  -- warning-requires
-    (λ c κs. let p = c.before.before.before.before.before.before.requires in (p.0.texts, rw c.warning.ensures (record { named = p.1; noted = tt }), p.2))  -- report-requires
+    (λ c κs. let p = c.requires in (p.0.texts, rw c.warning.ensures (record { named = p.1; noted = tt }), p.2))  -- report-requires
     (λ c. search rules)  -- same-length
-    (λ c. measured-again _ _ _ _ _ _ c.before.before.before.before.before.before.lookup.ensures c.before.before.before.before.before.before.before.before.before.args.qubit _ c.before.before.before.warning.ensures c.before.before.before.before.before.if1.false c.before.before.report.ensures))  -- returns-2
+    (λ c. measured-again _ _ _ _ _ _ c.lookup.ensures c.args.qubit _ c.warning.ensures c.if-lookup-eq0.false c.report.ensures))  -- returns-2
