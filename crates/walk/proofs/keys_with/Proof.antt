@@ -8,10 +8,10 @@ use borrow.Author.Rules.{rules}
 use Rattle.walk.proofs.keys_with.Statement.{statement}
 use Rattle.walk.proofs.keys_with.Tie as tie
 
-pub keys-with-spec : {M : Type 1} → statement M
-keys-with-spec =
+pub keys_with_spec : {M : Type 1} → statement M
+keys_with_spec =
     tie.close (tie.spec
-    (λ c. stmt_in _ _ _ _ c.before.before.before.requires.2)  -- shared-slice-read-if1
-    (λ c κs. let p = c.before.before.before.before.before.requires in (p.2, p.3, p.0.texts.few, p.1, p.0.indexed, c.before.if1.true))  -- add-keys-requires
+    (λ c. stmt_in _ _ _ _ c.requires.2)  -- shared-slice-read-if1
+    (λ c κs. let p = c.requires in (p.2, p.3, p.0.texts.few, p.1, p.0.indexed, c.if-tree-at-eq8.true))  -- add-keys-requires
     (λ c. search rules)  -- returns
-    (λ c. let p = c.before.before.before.before.requires in (rw (plain-keys _ _ _ p.2 (plain-below _ p.4) (plain_other _ p.4) c.if1.false _ _) (none-added _ _ p.0.indexed), refl)))  -- returns-2
+    (λ c. let p = c.requires in (rw (plain-keys _ _ _ p.2 (plain-below _ p.4) (plain_other _ p.4) c.if-tree-at-eq8.false _ _) (none-added _ _ p.0.indexed), refl)))  -- returns-2

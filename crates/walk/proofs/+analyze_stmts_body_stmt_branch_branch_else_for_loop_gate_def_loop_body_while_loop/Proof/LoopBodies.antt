@@ -27,13 +27,13 @@ module _ (t : ℕ) where
   pub loop_body_closed : {M : Type 1} → loop-body-lts.Closed loop_body_calls (loop_body_at t) loop-body.Post M
   loop_body_closed =
       loop-body-lts.spec loop_body_calls (loop_body_at t) loop-body.Post
-      (λ c κs. (omega arith, c.before.before.before.before.before.before.requires.1.0))  -- analyze-stmts-requires
+      (λ c κs. (omega arith, c.requires.1.0))  -- analyze-stmts-requires
       (λ c. search rules) (λ c. search rules)  -- same-length, same-length-2
-      (λ c. looped-over c.before.before.before.before.before.before.before.before.before.before.before.before.requires.1 c.before.before.before.before.before.analyze-stmts.ensures c.if1.true)  -- returns
-      (λ c κs. let v = c.before.before.before.before.before.before.before.before.analyze-stmts.ensures in (c.before.before.before.before.before.before.before.before.before.before.before.before.before.before.before.requires.1.0.ready.placed.whole, (v.walked (within v.added c.before.before.before.if1.false)).placed.whole))  -- unite-requires
-      (λ c. let p = c.before.before.before.before.before.before.before.before.before.before.before.before.before.before.before.before.requires.1 in omega (arith, looped-room p c.before.before.before.before.before.before.before.before.before.analyze-stmts.ensures c.before.before.before.before.if1.false, p.0.walkable.small))  -- add-r
+      (λ c. looped-over c.requires.1 c.analyze_stmts-r.ensures c.if-r-eq-OVER.true)  -- returns
+      (λ c κs. let v = c.analyze_stmts-r.ensures in (c.requires.1.0.ready.placed.whole, (v.walked (within v.added c.if-r-eq-OVER.false)).placed.whole))  -- unite-requires
+      (λ c. let p = c.requires.1 in omega (arith, looped-room p c.analyze_stmts-r.ensures c.if-r-eq-OVER.false, p.0.walkable.small))  -- add-r
       (λ c. search rules) (λ c. search rules)  -- same-length-3, same-length-4
-      (λ c. looped_went c.before.before.before.before.before.before.before.before.before.before.before.before.before.before.before.before.requires.1 c.before.before.before.before.before.before.before.before.before.analyze-stmts.ensures _ refl refl refl c.unite.ensures)  -- returns-2
+      (λ c. looped_went c.requires.1 c.analyze_stmts-r.ensures _ refl refl refl c.unite.ensures)  -- returns-2
 
   abbrev for_loop_calls : for-loop-lts.Claims
   for_loop_calls = (bodies.open_for.Reads.Asked, bodies.open_for.Reads.Learnt, moved.Asked, moved.Learnt, loop-body-below t, loop-body.Post)
@@ -41,10 +41,10 @@ module _ (t : ℕ) where
   pub for_loop_closed : {M : Type 1} → for-loop-lts.Closed for_loop_calls (for_loop_at t) for-loop.Post M
   for_loop_closed =
       for-loop-lts.spec for_loop_calls (for_loop_at t) for-loop.Post
-      (λ c κs. open_asked c.before.before.before.before.before.before.requires.1) (λ c κs. search rules) (λ c. omega (arith, stmt-left _ _ _ _ c.before.before.before.before.before.before.before.before.before.before.before.before.before.before.before.requires.1.0.accepted))  -- open-for-requires, moved-requires, sub-loop-body
-      (λ c κs. let s = c.before.before.before.before.before.before.before.before.before.before.before.before.before.before.before in for_below s.requires.1.0 s.requires.1.1 (opened_moved s.args.st _ c.before.before.before.before.before.before.before.before.open-for.ensures _ c.before.before.before.moved.ensures) s.requires.0)  -- loop-body-requires
+      (λ c κs. open_asked c.requires.1) (λ c κs. search rules) (λ c. omega (arith, stmt-left _ _ _ _ c.requires.1.0.accepted))  -- open-for-requires, moved-requires, sub-loop-body
+      (λ c κs. let s = c in for_below s.requires.1.0 s.requires.1.1 (opened_moved s.args.st _ c.open_for-a.ensures _ c.moved-s.ensures) s.requires.0)  -- loop-body-requires
       (λ c. search rules) (λ c. search rules)  -- same-length, same-length-2
-      (λ c. let s = c.before.before.before.before.before.before.before.before.before.before.before.before.before.before.before.before.before.before.before.before in for_went s.requires.1.0 s.requires.1.1 (opened_moved s.args.st _ c.before.before.before.before.before.before.before.before.before.before.before.before.before.open-for.ensures _ c.before.before.before.before.before.before.before.before.moved.ensures) c.before.before.before.before.loop-body.ensures)  -- returns
+      (λ c. let s = c in for_went s.requires.1.0 s.requires.1.1 (opened_moved s.args.st _ c.open_for-a.ensures _ c.moved-s.ensures) c.loop_body.ensures)  -- returns
 
   abbrev while_loop_calls : while-loop-lts.Claims
   while_loop_calls = (bodies.open_while.Reads.Asked, bodies.open_while.Reads.Learnt, moved.Asked, moved.Learnt, loop-body-below t, loop-body.Post)
@@ -52,7 +52,7 @@ module _ (t : ℕ) where
   pub while_loop_closed : {M : Type 1} → while-loop-lts.Closed while_loop_calls (while_loop_at t) while-loop.Post M
   while_loop_closed =
       while-loop-lts.spec while_loop_calls (while_loop_at t) while-loop.Post
-      (λ c κs. open_asked c.before.before.before.before.before.before.requires.1) (λ c κs. search rules) (λ c. omega (arith, stmt-left _ _ _ _ c.before.before.before.before.before.before.before.before.before.before.before.before.before.before.before.requires.1.0.accepted))  -- open-while-requires, moved-requires, sub-loop-body
-      (λ c κs. let s = c.before.before.before.before.before.before.before.before.before.before.before.before.before.before.before in while-below s.requires.1.0 s.requires.1.1 (opened_moved s.args.st _ c.before.before.before.before.before.before.before.before.open-while.ensures _ c.before.before.before.moved.ensures) s.requires.0)  -- loop-body-requires
+      (λ c κs. open_asked c.requires.1) (λ c κs. search rules) (λ c. omega (arith, stmt-left _ _ _ _ c.requires.1.0.accepted))  -- open-while-requires, moved-requires, sub-loop-body
+      (λ c κs. let s = c in while-below s.requires.1.0 s.requires.1.1 (opened_moved s.args.st _ c.open_while-a.ensures _ c.moved-s.ensures) s.requires.0)  -- loop-body-requires
       (λ c. search rules) (λ c. search rules)  -- same-length, same-length-2
-      (λ c. let s = c.before.before.before.before.before.before.before.before.before.before.before.before.before.before.before.before.before.before.before.before in while_went s.requires.1.0 s.requires.1.1 (opened_moved s.args.st _ c.before.before.before.before.before.before.before.before.before.before.before.before.before.open-while.ensures _ c.before.before.before.before.before.before.before.before.moved.ensures) c.before.before.before.before.loop-body.ensures)  -- returns
+      (λ c. let s = c in while_went s.requires.1.0 s.requires.1.1 (opened_moved s.args.st _ c.open_while-a.ensures _ c.moved-s.ensures) c.loop_body.ensures)  -- returns
