@@ -2,7 +2,8 @@
 #![tactic(auto)]
 
 use int128::{Checked, Int128, Words};
-use libc::STDOUT_FILENO;
+use std::io;
+use std::io::Write;
 
 const ONE: u64 = 1;
 
@@ -48,15 +49,16 @@ fn last_digit(v: Int128) -> Digit {
     }
 }
 
-fn print_from(digits: [u8; 40], first: usize) {
+fn print_from<W: Write>(out: &mut W, digits: [u8; 40], first: usize) -> io::Result<()> {
     if first <= 40 {
-        io::write_all(STDOUT_FILENO, &digits[first..]);
+        out.write_all(&digits[first..])?;
     }
+    Ok(())
 }
 
 // A magnitude below 10^40 in decimal.
-fn print_magnitude(words: Words) {
-    let mut out = [48u8; 40];
+fn print_magnitude<W: Write>(out: &mut W, words: Words) -> io::Result<()> {
+    let mut digits = [48u8; 40];
     let mut rest = Int128 { neg: false, words };
     let mut at: usize = 40;
     let mut first: usize = 39;
@@ -68,112 +70,122 @@ fn print_magnitude(words: Words) {
         if 0 < digit {
             first = at;
         }
-        out[at] = 48 + digit % 10;
+        digits[at] = 48 + digit % 10;
     }
-    print_from(out, first);
+    print_from(out, digits, first)
 }
 
-fn line(label: &[u8], answer: Checked) {
-    io::write_all(STDOUT_FILENO, label);
-    io::write_all(STDOUT_FILENO, b" = ");
+fn line<W: Write>(out: &mut W, label: &[u8], answer: Checked) -> io::Result<()> {
+    out.write_all(label)?;
+    out.write_all(b" = ")?;
     match answer {
         Checked::Value(v) => {
             if v.neg {
-                io::write_all(STDOUT_FILENO, b"-");
+                out.write_all(b"-")?;
             }
-            print_magnitude(v.words);
+            print_magnitude(out, v.words)?;
         }
-        Checked::None => {
-            io::write_all(STDOUT_FILENO, b"none");
-        }
+        Checked::None => out.write_all(b"none")?,
     }
-    io::write_all(STDOUT_FILENO, b"\n");
+    out.write_all(b"\n")
 }
 
-fn powers() {
+fn powers<W: Write>(out: &mut W) -> io::Result<()> {
     let two = Int128::from_u64(2);
     let e127 = Int128::from_u64(127);
     let e32 = Int128::from_u64(4294967295);
-    line(b"(-2)**127", number(true, 0, 2).checked_pow(e127));
-    line(b"2**127", two.checked_pow(e127));
-    line(b"(-1)**(2^32 - 1)", number(true, 0, 1).checked_pow(e32));
-    line(b"1**(2^32 - 1)", number(false, 0, 1).checked_pow(e32));
-    line(b"2**(2^32 - 1)", two.checked_pow(e32));
+    line(out, b"(-2)**127", number(true, 0, 2).checked_pow(e127))?;
+    line(out, b"2**127", two.checked_pow(e127))?;
     line(
+        out,
+        b"(-1)**(2^32 - 1)",
+        number(true, 0, 1).checked_pow(e32),
+    )?;
+    line(out, b"1**(2^32 - 1)", number(false, 0, 1).checked_pow(e32))?;
+    line(out, b"2**(2^32 - 1)", two.checked_pow(e32))?;
+    line(
+        out,
         b"1**(2^32)",
         number(false, 0, 1).checked_pow(number(false, 0, 4294967296)),
-    );
+    )?;
     line(
+        out,
         b"1**(-1)",
         number(false, 0, 1).checked_pow(number(true, 0, 1)),
-    );
+    )?;
     line(
+        out,
         b"0**0",
         number(false, 0, 0).checked_pow(number(false, 0, 0)),
-    );
+    )
 }
 
-fn quotients() {
+fn quotients<W: Write>(out: &mut W) -> io::Result<()> {
     let seven = Int128::from_u64(7);
     let two = Int128::from_u64(2);
-    line(b"-7/2", number(true, 0, 7).checked_div(two));
-    line(b"7/-2", seven.checked_div(number(true, 0, 2)));
-    line(b"7/0", seven.checked_div(number(false, 0, 0)));
-    line(b"-2^127 / -1", min().checked_div(number(true, 0, 1)));
+    line(out, b"-7/2", number(true, 0, 7).checked_div(two))?;
+    line(out, b"7/-2", seven.checked_div(number(true, 0, 2)))?;
+    line(out, b"7/0", seven.checked_div(number(false, 0, 0)))?;
+    line(out, b"-2^127 / -1", min().checked_div(number(true, 0, 1)))?;
     line(
+        out,
         b"(2^127 - 1) / (2^64 + 1)",
         max().checked_div(number(false, 1, 1)),
-    );
+    )
 }
 
-fn products() {
+fn products<W: Write>(out: &mut W) -> io::Result<()> {
     let word = Int128::from_u64(18446744073709551615);
     line(
+        out,
         b"2^63 * 2^64",
         number(false, 0, 9223372036854775808).checked_mul(number(false, 1, 0)),
-    );
+    )?;
     line(
+        out,
         b"-2^63 * 2^64",
         number(true, 0, 9223372036854775808).checked_mul(number(false, 1, 0)),
-    );
+    )?;
     line(
+        out,
         b"(2^64 - 1) * (2^63 - 1)",
         word.checked_mul(number(false, 0, 9223372036854775807)),
-    );
-    line(b"(2^64 - 1) * (2^64 - 1)", word.checked_mul(word));
+    )?;
+    line(out, b"(2^64 - 1) * (2^64 - 1)", word.checked_mul(word))
 }
 
-fn at_top() {
+fn at_top<W: Write>(out: &mut W) -> io::Result<()> {
     let one = Int128::from_u64(ONE);
-    line(b"max + 0", max().checked_add(number(false, 0, 0)));
-    line(b"max + 1", max().checked_add(one));
-    line(b"max - 1", max().checked_sub(one));
-    line(b"max - -1", max().checked_sub(number(true, 0, 1)));
-    line(b"max * 1", max().checked_mul(one));
-    line(b"max * -1", max().checked_mul(number(true, 0, 1)));
-    line(b"max / -1", max().checked_div(number(true, 0, 1)));
-    line(b"max ** 1", max().checked_pow(one));
-    line(b"-max", max().checked_neg());
+    line(out, b"max + 0", max().checked_add(number(false, 0, 0)))?;
+    line(out, b"max + 1", max().checked_add(one))?;
+    line(out, b"max - 1", max().checked_sub(one))?;
+    line(out, b"max - -1", max().checked_sub(number(true, 0, 1)))?;
+    line(out, b"max * 1", max().checked_mul(one))?;
+    line(out, b"max * -1", max().checked_mul(number(true, 0, 1)))?;
+    line(out, b"max / -1", max().checked_div(number(true, 0, 1)))?;
+    line(out, b"max ** 1", max().checked_pow(one))?;
+    line(out, b"-max", max().checked_neg())
 }
 
-fn at_bottom() {
+fn at_bottom<W: Write>(out: &mut W) -> io::Result<()> {
     let one = Int128::from_u64(ONE);
-    line(b"min + 0", min().checked_add(number(false, 0, 0)));
-    line(b"min + -1", min().checked_add(number(true, 0, 1)));
-    line(b"min - 1", min().checked_sub(one));
-    line(b"min + max", min().checked_add(max()));
-    line(b"min * 1", min().checked_mul(one));
-    line(b"min * -1", min().checked_mul(number(true, 0, 1)));
-    line(b"min / 1", min().checked_div(one));
-    line(b"min ** 1", min().checked_pow(one));
-    line(b"min ** 2", min().checked_pow(Int128::from_u64(2)));
-    line(b"-min", min().checked_neg());
+    line(out, b"min + 0", min().checked_add(number(false, 0, 0)))?;
+    line(out, b"min + -1", min().checked_add(number(true, 0, 1)))?;
+    line(out, b"min - 1", min().checked_sub(one))?;
+    line(out, b"min + max", min().checked_add(max()))?;
+    line(out, b"min * 1", min().checked_mul(one))?;
+    line(out, b"min * -1", min().checked_mul(number(true, 0, 1)))?;
+    line(out, b"min / 1", min().checked_div(one))?;
+    line(out, b"min ** 1", min().checked_pow(one))?;
+    line(out, b"min ** 2", min().checked_pow(Int128::from_u64(2)))?;
+    line(out, b"-min", min().checked_neg())
 }
 
-fn main() {
-    powers();
-    quotients();
-    products();
-    at_top();
-    at_bottom();
+fn main(rt: HostRuntime) -> io::Result<()> {
+    let mut out = rt.stdout();
+    powers(&mut out)?;
+    quotients(&mut out)?;
+    products(&mut out)?;
+    at_top(&mut out)?;
+    at_bottom(&mut out)
 }

@@ -1,14 +1,14 @@
 // Reads a tree on standard input and prints its listing, or refused, number and place.
 #![tactic(auto)]
 
-use libc::STDIN_FILENO;
+use std::io;
 
 // One byte more than a tree may have is enough to be refused.
-fn main() {
+fn main(rt: HostRuntime) -> io::Result<()> {
     let mut space = [0u8; 16385];
-    let mut scratch = io::large_buffer();
-    let mut listing = io::large_buffer();
-    let n = io::read_full(STDIN_FILENO, &mut space);
+    let mut scratch = [0u8; 65536];
+    let mut listing = [0u8; 65536];
+    let n = cases::read_full(&mut rt.stdin(), &mut space)?;
     let a = checker::check(&space[..n], &mut scratch, &mut listing);
-    output::print(a, &listing);
+    output::print(&mut rt.stdout(), a, &listing)
 }

@@ -2,34 +2,40 @@
 #![tactic(auto)]
 
 use cases::Case;
+use std::io;
+use std::io::{Read, Write};
 
 // More cases than the input has.
 const CASES: usize = 10000;
 
 // Whether there was a tree.
-fn list_next(space: &mut [u8], scratch: &mut [u8], listing: &mut [u8]) -> bool {
-    match cases::next(space) {
-        Case::End => false,
+fn list_next<R: Read, W: Write>(
+    input: &mut R,
+    out: &mut W,
+    space: &mut [u8],
+    scratch: &mut [u8],
+    listing: &mut [u8],
+) -> io::Result<bool> {
+    match cases::next(input, space)? {
+        Case::End => Ok(false),
         Case::Tree(n) => {
             let a = checker::check(&space[..n], scratch, listing);
-            output::print(a, listing);
-            true
+            output::print(out, a, listing)?;
+            Ok(true)
         }
     }
 }
 
-fn main() {
-    let mut bytes = io::large_buffer();
-    let mut tables = io::large_buffer();
-    let mut lines = io::large_buffer();
-    let space: &mut [u8] = &mut bytes;
-    let scratch: &mut [u8] = &mut tables;
-    let listing: &mut [u8] = &mut lines;
-    let mut left = CASES;
-    while 0 < left {
-        if !list_next(space, scratch, listing) {
-            return;
+fn main(rt: HostRuntime) -> io::Result<()> {
+    let mut space = [0u8; 65536];
+    let mut scratch = [0u8; 65536];
+    let mut listing = [0u8; 65536];
+    let mut input = rt.stdin();
+    let mut out = rt.stdout();
+    for _ in 0..CASES {
+        if !list_next(&mut input, &mut out, &mut space, &mut scratch, &mut listing)? {
+            break;
         }
-        left -= 1;
     }
+    Ok(())
 }

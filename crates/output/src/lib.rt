@@ -1,29 +1,23 @@
 // Prints an answer of the checker: the listing, or refused, number and place.
 #![tactic(auto)]
 
-ghost use Rattle.std.specs.Prelude.{◌≡◌, ℕ, ◌≤◌, length};
+ghost use Rattle.std.specs.Prelude.{◌≡◌, ℕ, ◌≤◌, length, OnOk};
+ghost use Rattle.std.specs.Io.KnownBytes.{Appends};
 ghost use Rattle.answer.specs.Answer.{accepted};
 ghost use Rattle.verdict.specs.Verdict.{answer_of};
+ghost use Rattle.output.specs.Printed.{printed};
 
-use libc::STDOUT_FILENO;
+use std::io;
+use std::io::Write;
 use verdict::Answer;
 
-fn print_refusal(number: u8, place: usize) {
-    io::write_all(STDOUT_FILENO, b"refused ");
-    io::print_decimal(STDOUT_FILENO, number as u64);
-    io::write_all(STDOUT_FILENO, b" ");
-    io::print_decimal(STDOUT_FILENO, place as u64);
-    io::write_all(STDOUT_FILENO, b"\n");
-}
-
 // The listing stands at the beginning of its buffer.
-pub fn print(a: Answer, listing: &[u8])
+pub fn print<W: Write>(out: &mut W, a: Answer, listing: &[u8]) -> io::Result<()>
     requires { (errors warnings size : ℕ) → answer_of a ≡ accepted errors warnings size → size ≤ length listing.now }
+    ensures { OnOk result (Appends (W.contents out.old) (W.contents out.new) (printed (answer_of a) listing.now)) }
 {
     match a {
-        Answer::Refused(number, place) => print_refusal(number, place),
-        Answer::Accepted(_, _, size) => {
-            io::write_all(STDOUT_FILENO, &listing[..size]);
-        }
+        Answer::Refused(number, place) => writeln!(out, "refused {number} {place}"),
+        Answer::Accepted(_, _, size) => out.write_all(&listing[..size]),
     }
 }

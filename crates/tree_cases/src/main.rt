@@ -2,46 +2,39 @@
 #![tactic(auto)]
 
 use cases::Case;
-use libc::STDOUT_FILENO;
 use reader::Validated;
+use std::io;
+use std::io::{Read, Write};
 
 // More cases than the input has.
 const CASES: usize = 10000;
 
-fn print(answer: Validated) {
+fn print<W: Write>(out: &mut W, answer: Validated) -> io::Result<()> {
     match answer {
-        Validated::Accepted => {
-            io::write_all(STDOUT_FILENO, b"accepted\n");
-        }
-        Validated::Refused(number, place) => {
-            io::write_all(STDOUT_FILENO, b"refused ");
-            io::print_decimal(STDOUT_FILENO, number as u64);
-            io::write_all(STDOUT_FILENO, b" ");
-            io::print_decimal(STDOUT_FILENO, place as u64);
-            io::write_all(STDOUT_FILENO, b"\n");
-        }
+        Validated::Accepted => writeln!(out, "accepted"),
+        Validated::Refused(number, place) => writeln!(out, "refused {number} {place}"),
     }
 }
 
 // Whether there was a tree.
-fn run_next(space: &mut [u8]) -> bool {
-    match cases::next(space) {
-        Case::End => false,
+fn run_next<R: Read, W: Write>(input: &mut R, out: &mut W, space: &mut [u8]) -> io::Result<bool> {
+    match cases::next(input, space)? {
+        Case::End => Ok(false),
         Case::Tree(n) => {
-            print(reader::validate(&space[..n]));
-            true
+            print(out, reader::validate(&space[..n]))?;
+            Ok(true)
         }
     }
 }
 
-fn main() {
-    let mut bytes = io::large_buffer();
-    let space: &mut [u8] = &mut bytes;
-    let mut left = CASES;
-    while 0 < left {
-        if !run_next(space) {
-            return;
+fn main(rt: HostRuntime) -> io::Result<()> {
+    let mut space = [0u8; 65536];
+    let mut input = rt.stdin();
+    let mut out = rt.stdout();
+    for _ in 0..CASES {
+        if !run_next(&mut input, &mut out, &mut space)? {
+            break;
         }
-        left -= 1;
     }
+    Ok(())
 }

@@ -1,11 +1,9 @@
 -- Lines kept in a stage and stored behind the first line. Assumes nothing.
-use Prim.Native.Nat.{ℕ, ◌+◌, ◌-◌, ◌≤◌}
-use mathlib.Core.Path.{◌≡◌, sym, ◌∙◌}
-use mathlib.Core.List.{List, [], ◌++◌, append-nil, append_assoc}
-use native.Mathlib.Omega.{arith}
-use native.Mathlib.Nat.{zero-add}
-use lib.ListN.{length, take, drop, length-take, length-drop}
-use lib.Seq.{sets, length-sets, sets-eq, take_all, take-length, drop-length, drop-drop}
+use Rattle.std.proofs.Common.{arith, ℕ, ◌+◌, ◌-◌, ◌≤◌, ◌≡◌, List, length, take, drop, sym, ◌∙◌, append_assoc}
+use Rattle.std.proofs.Math.Nat.{zero-add}
+use Rattle.std.proofs.Math.ListN.{length-take, length-drop}
+use Rattle.std.proofs.Math.Seq.{sets, length-sets, sets-eq, drop-drop}
+use borrow.Rule.Slice.PartMut.{put_mid}
 use Rattle.lines.specs.Stored.{Wrote}
 use Rattle.verdict.specs.Verdict.{head_of}
 
@@ -16,20 +14,17 @@ module _ (l : List ℕ) (errors warnings : ℕ) (stage : List ℕ) (head n : ℕ
   kept : length (take n stage) ≡ n
   kept = omega (arith, length-take n stage)
 
-  pub staged-room : length (take n stage) ≤ length (take (length o - head) (drop head o))
-  staged-room = omega (arith, same, kept, w.after, length-take (length o - head) (drop head o), length-drop head o)
+  pub staged_end : head + n ≤ length o
+  staged_end = omega (arith, same, w.after)
 
-  all : take (length o - head) (drop head o) ≡ drop head o
-  all = take_all (length o - head) (drop head o) (omega (arith, length-drop head o))
+  pub staged-room : length (take (head + n - head) (drop head o)) ≡ length (take n stage)
+  staged-room = omega (arith, same, kept, w.after, length-take (head + n - head) (drop head o), length-drop head o)
 
-  none : drop (length o - head) (drop head o) ≡ []
-  none = rw (← length-drop head o) (drop-length (drop head o))
-
-  pub staged-behind : (d : List ℕ) → d ≡ take (length (take n stage)) (take n stage) ++ drop (length (take n stage)) (take (length o - head) (drop head o))
-      → take head o ++ (d ++ drop (length o - head) (drop head o)) ≡ sets (sets l 0 (head_of errors warnings)) (length (head_of errors warnings)) (take n stage)
+  pub staged-behind : (d : List ℕ) → d ≡ take n stage
+      → put_mid head (head + n - head) o d ≡ sets (sets l 0 (head_of errors warnings)) (length (head_of errors warnings)) (take n stage)
   staged-behind d e =
       let xs = take n stage in
-      let f : d ≡ xs ++ drop (head + length xs) o = e ∙ rw (take-length xs, all, drop-drop (length xs) head o) in
+      let k : head + n - head ≡ length xs = omega (arith, kept) in
       let a : head ≡ length (head_of errors warnings) = w.after ∙ zero-add (length (head_of errors warnings)) in
-      rw (none, append-nil d, f)
-      (sym (append_assoc (take head o) xs (drop (head + length xs) o)) ∙ sym (sets-eq xs o head (omega (arith, same, kept, w.after))) ∙ rw (← w.holds, ← a))
+      rw (k, e, drop-drop (length xs) head o)
+      (sym (sets-eq xs o head (omega (arith, kept, staged_end)) ∙ append_assoc (take head o) xs (drop (head + length xs) o)) ∙ rw (w.holds, a))

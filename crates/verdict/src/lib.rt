@@ -62,5 +62,5 @@ pub fn write_staged(stage: &[u8], listing: &mut [u8], sink: Sink)
 {
     let n = sink.n as usize;
     let after = lines::first_line(listing, sink.errors, sink.warnings);
-    bytes::copy(&stage[..n], &mut listing[after..]);
+    listing[after..after + n].copy_from_slice(&stage[..n]);
 }
