@@ -5,14 +5,14 @@ use borrow.Author.Rules.{rules}
 use Rattle.checker.proofs.check_file.Statement.{statement}
 use Rattle.checker.proofs.check_file.Tie as tie
 
-pub check-file-spec : {M : Type 1} → statement M
-check-file-spec =
+pub check_file_spec : {M : Type 1} → statement M
+check_file_spec =
     tie.close (tie.spec
     (λ c κs. search rules)  -- validate-requires
     (λ c. search rules)  -- enum-known-v
     (λ c. search rules)  -- enum_told
-    (λ c κs. (file-accepted _ (sym c.before.before.enum_told.given.1 ∙ c.before.before.before.before.validate.ensures), c.before.before.before.before.before.before.before.before.requires))  -- check-program-requires
-    (λ c. judged-refused _ _ _ _ _ (file-refused _ _ _ (sym c.before.v.given.1 ∙ c.before.before.before.validate.ensures)))  -- returns
+    (λ c κs. (file-accepted _ (sym c.in-Accepted.is ∙ c.validate-v.ensures), c.requires))  -- check-program-requires
+    (λ c. judged-refused _ _ _ _ _ (file-refused _ _ _ (sym c.in-Refused.is ∙ c.validate-v.ensures)))  -- returns
     (λ c. search rules)  -- same-length
     (λ c. search rules)  -- same-length-2
-    (λ c. judged-program _ _ _ _ _ _ (file-accepted _ (sym c.before.before.before.before.before.before.before.enum_told.given.1 ∙ c.before.before.before.before.before.before.before.before.before.validate.ensures)) c.before.before.before.before.check-program.ensures))  -- returns-2
+    (λ c. judged-program _ _ _ _ _ _ (file-accepted _ (sym c.in-Accepted.is ∙ c.validate-v.ensures)) c.check_program.ensures))  -- returns-2
