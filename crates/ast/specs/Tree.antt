@@ -71,7 +71,7 @@ mutual
     Reset : (place : ℕ) (target : GateOperand) (span : Span) → Stmt
     Barrier : (place : ℕ) (targets : List GateOperand) (span : Span) → Stmt
     Delay : (place : ℕ) (duration : Expr) (targets : List GateOperand) (span : Span) → Stmt
-    If : (place : ℕ) (condition : Expr) (then-body : Stmts) (else_body_lem : Else) (span : Span) → Stmt
+    If : (place : ℕ) (condition : Expr) (then_body : Stmts) (else_body : Else) (span : Span) → Stmt
     For : (place : ℕ) (var-name : TextNumber) (var-ty : ClassicalType) (range : ForRange) (body : Stmts) (span : Span) → Stmt
     While : (place : ℕ) (condition : Expr) (body : Stmts) (span : Span) → Stmt
 

@@ -157,7 +157,7 @@ stmt_span (Stmt.Measure at qubit target sp) = sp
 stmt_span (Stmt.Reset at target sp) = sp
 stmt_span (Stmt.Barrier at targets sp) = sp
 stmt_span (Stmt.Delay at duration targets sp) = sp
-stmt_span (Stmt.If at condition then-body else_body_lem sp) = sp
+stmt_span (Stmt.If at condition then_body else_body sp) = sp
 stmt_span (Stmt.For at x ty range body sp) = sp
 stmt_span (Stmt.While at condition body sp) = sp
 

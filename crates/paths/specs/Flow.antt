@@ -41,7 +41,7 @@ abbrev mutual
   flow (Stmt.Reset at target sp) = alone (Stmt.Reset at target sp)
   flow (Stmt.Barrier at targets sp) = alone (Stmt.Barrier at targets sp)
   flow (Stmt.Delay at duration targets sp) = alone (Stmt.Delay at duration targets sp)
-  flow (Stmt.If at condition then-body else_body_lem sp) = flow_else else_body_lem (Stmt.If at condition then-body else_body_lem sp) (flows then-body)
+  flow (Stmt.If at condition then_body else_body sp) = flow_else else_body (Stmt.If at condition then_body else_body sp) (flows then_body)
   -- "A loop comes itself, then its body"
   flow (Stmt.For at x ty range body sp) = loop (Stmt.For at x ty range body sp) (loop_scope x ty sp) (flows body)
   flow (Stmt.While at condition body sp) = loop (Stmt.While at condition body sp) noSymbols (flows body)

@@ -21,7 +21,7 @@ uses (Stmt.Measure at qubit target sp) = ([], sp)
 uses (Stmt.Reset at target sp) = ([], sp)
 uses (Stmt.Barrier at targets sp) = (targets, sp)
 uses (Stmt.Delay at duration targets sp) = (targets, sp)
-uses (Stmt.If at condition then-body else_body_lem sp) = ([], sp)
+uses (Stmt.If at condition then_body else_body sp) = ([], sp)
 uses (Stmt.For at x ty range body sp) = ([], sp)
 uses (Stmt.While at condition body sp) = ([], sp)
 

@@ -7,7 +7,7 @@ use Rattle.sema.specs.Limits.{key_limit}
 use Rattle.sema.specs.Symbols.{Symbols}
 use Rattle.sema.specs.Marks.{Key}
 use Rattle.sema.specs.Keys.{keys_stmt, keys_stmts, keys_else}
-use Rattle.sema.specs.KeyCount.{grown-stmt, grown_stmts, grown_else}
+use Rattle.sema.proofs.KeyCount.{grown-stmt, grown_stmts, grown_else}
 use Rattle.sema.specs.LawsKeys.{Grown}
 use Rattle.context.specs.declared.State.{State}
 use Rattle.context.specs.View.{keys_in, marks_of}

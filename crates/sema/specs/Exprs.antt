@@ -1,5 +1,5 @@
 -- Types of expressions, as `check_expr`, `require_type` and `check_modifiers` of src/sema.rs.
-use Rattle.std.specs.Prelude.{ℕ, suc, List, [], ◌∷◌, ◌++◌, Bool, false, cond, ◌&&◌, ◌||◌, length, eqb, ltb}
+use Rattle.std.specs.Prelude.{ℕ, suc, List, [], ◌∷◌, ◌++◌, false, cond, ◌&&◌, ◌||◌, length, eqb, ltb}
 use Rattle.std.proofs.Math.Option.{Option, none, some}
 use Rattle.span.specs.declared.Span.{Span}
 use Rattle.ast.specs.Tree.{TextNumber, Expr, Exprs, no_expr, more_expr, GateModifier, expr_count}

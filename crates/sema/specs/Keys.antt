@@ -54,7 +54,7 @@ unfoldable mutual
   keys_stmt (Stmt.Reset at target sp) ss ks = ks
   keys_stmt (Stmt.Barrier at targets sp) ss ks = ks
   keys_stmt (Stmt.Delay at duration targets sp) ss ks = ks
-  keys_stmt (Stmt.If at condition then-body else_body_lem sp) ss ks = keys_else else_body_lem ss (keys_stmts then-body (empty ∷ ss) ks)
+  keys_stmt (Stmt.If at condition then_body else_body sp) ss ks = keys_else else_body ss (keys_stmts then_body (empty ∷ ss) ks)
   keys_stmt (Stmt.For at x ty range body sp) ss ks = keys_stmts body (loop_scope x ty sp ∷ ss) ks
   keys_stmt (Stmt.While at condition body sp) ss ks = keys_stmts body (empty ∷ ss) ks
 

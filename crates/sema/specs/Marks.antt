@@ -80,7 +80,7 @@ effect ss (Stmt.Measure at qubit target sp) k = mark_measured ss qubit k
 effect ss (Stmt.Reset at target sp) k = clear_measured target k
 effect ss (Stmt.Barrier at targets sp) k = keep
 effect ss (Stmt.Delay at duration targets sp) k = keep
-effect ss (Stmt.If at condition then-body else_body_lem sp) k = keep
+effect ss (Stmt.If at condition then_body else_body sp) k = keep
 effect ss (Stmt.For at x ty range body sp) k = keep
 effect ss (Stmt.While at condition body sp) k = keep
 

@@ -237,9 +237,9 @@ module _ (t : List Text) where
     analyze_stmt (Stmt.Delay at duration targets sp) c =
         simple (Stmt.Delay at duration targets sp) sp c
         (require_numeric c.symbols c.functions duration Messages.delay_numeric ++ use_operands c.symbols c.measured sp targets)
-    analyze_stmt (Stmt.If at condition then-body else_body_lem sp) c =
-        let a = analyze_stmts then-body (enter empty c) in
-        let b = analyze_else else_body_lem c a.0 in
+    analyze_stmt (Stmt.If at condition then_body else_body sp) c =
+        let a = analyze_stmts then_body (enter empty c) in
+        let b = analyze_else else_body c a.0 in
         (b.0, require_type c.symbols c.functions condition ClassicalType.Bool Messages.if_condition ++ (a.1 ++ b.1))
     analyze_stmt (Stmt.For at x ty range body sp) c =
         let w = analyze_stmts body (enter (loop_scope x ty sp) c) in

@@ -87,7 +87,7 @@ after ss (Stmt.Measure at qubit target sp) = ss
 after ss (Stmt.Reset at target sp) = ss
 after ss (Stmt.Barrier at targets sp) = ss
 after ss (Stmt.Delay at duration targets sp) = ss
-after ss (Stmt.If at condition then-body else_body_lem sp) = ss
+after ss (Stmt.If at condition then_body else_body sp) = ss
 after ss (Stmt.For at x ty range body sp) = ss
 after ss (Stmt.While at condition body sp) = ss
 

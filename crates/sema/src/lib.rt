@@ -1,3 +1,2 @@
 // What `analyze` of sema.rs answers, as definitions on trees: see specs/.
 #![tactic(auto)]
-

@@ -4,7 +4,7 @@ use Rattle.std.specs.Prelude.{List, [], ◌∷◌, T}
 use Rattle.sema.specs.Marks.{Key}
 use Rattle.sema.specs.Keys.{has_key}
 use Rattle.sema.specs.LawsLists as of
-use Rattle.sema.specs.LawsKeys.{has_key-iff}
+use Rattle.sema.proofs.LawsKeys.{has_key-iff}
 use Rattle.sheet.specs.Sheet.{Distinct}
 use Rattle.sheet.specs.Places.{by_test}
 

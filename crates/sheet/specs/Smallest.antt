@@ -12,7 +12,7 @@ use borrow.Author.Tests.{eqb-true, eqb-false, leb-true, leb-false, eq-eqb, le-le
 use Rattle.ast.specs.Tree.{TextNumber}
 use Rattle.sema.specs.Marks.{Key, key, in_slice, lookup_measured, smallest_covered}
 use Rattle.sema.specs.Keys.{same_key, has_key}
-use Rattle.sema.specs.LawsCover.{smallest-none, smallest-some, smallest-empty}
+use Rattle.sema.proofs.LawsCover.{smallest-none, smallest-some, smallest-empty}
 use Rattle.context.specs.View.{place_in, measure_span, mark_by, marks_of}
 use Rattle.sheet.specs.declared.Covered.{Covered}
 use Rattle.sheet.specs.Sheet.{first, lookup_in, smaller, offer, least_in, by_whole, smallest_in, covered_of, Distinct}

@@ -27,7 +27,7 @@ use Rattle.sheet.specs.Behind.{Blank}
 use Rattle.promises.specs.Walks.{Walkable, Ready, walk_stmt, walk_body}
 use Rattle.promises.specs.Went.{stmt_keys, body_keys, StmtAsked, BodyAsked, StmtWent, BodyWent}
 use Rattle.promises.specs.WentLaws.{within, longer_as, longer_length, stmt_longer, stmts_longer, marks_longer, blank-keys, blank_longer, walkable_longer, went_over}
-use Rattle.sema.specs.LawsOnly.{symbols-after}
+use Rattle.sema.proofs.LawsOnly.{symbols-after}
 
 -- n statements of the body at a place remain from r on, with the keys so far in the index i; what the walk makes of them is what it makes of
 -- the whole from st on, and so of their keys

@@ -13,8 +13,8 @@ use Rattle.sema.specs.Limits.{key_limit}
 use Rattle.sema.specs.Symbols.{Symbols}
 use Rattle.sema.specs.Marks.{Key}
 use Rattle.sema.specs.Keys.{has_key, keys_stmt}
-use Rattle.sema.specs.KeyCount.{grown-stmt}
-use Rattle.sema.specs.LawsKeys.{has_key-iff}
+use Rattle.sema.proofs.KeyCount.{grown-stmt}
+use Rattle.sema.proofs.LawsKeys.{has_key-iff}
 use Rattle.context.specs.declared.State.{State}
 use Rattle.context.specs.View.{scopes_of, keys_in}
 use Rattle.accepted.specs.Parts.{given_is}
