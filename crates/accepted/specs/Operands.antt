@@ -7,7 +7,7 @@ use native.Mathlib.Omega.{arith}
 use Rattle.span.specs.declared.Span.{Span}
 use Rattle.ast.specs.Tree.{Text, Expr, GateOperand as Operand, GateModifier}
 use Rattle.tree.specs.Ans.{ok, ◌>>=◌, done, refuse, IsOk, next_of}
-use Rattle.tree.specs.Read.{u64, span, option}
+use Rattle.tree.specs.Read.{u64, option}
 use Rattle.tree.specs.Texts.{is_name}
 use Rattle.tree.specs.Exprs.{name}
 use Rattle.tree.specs.Stmts.{classical_type, qualifier, slice, operand, held, ctrl, neg_ctrl, inv, pow, modifier, for_range, param}

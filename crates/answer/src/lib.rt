@@ -1,3 +1,2 @@
 // The answer of a call as definitions: see specs/.
 #![tactic(auto)]
-

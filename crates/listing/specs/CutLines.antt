@@ -1,5 +1,5 @@
 -- No line of a listing holds byte 10, where no text does. Cut at byte 10 the listing gives its lines back.
-use Rattle.std.specs.Prelude.{ℕ, zero, suc, ◌≡◌, Bool, get_or}
+use Rattle.std.specs.Prelude.{ℕ, zero, suc, ◌≡◌, get_or}
 use Rattle.std.proofs.Math.Path.{refl}
 use mathlib.Core.List.{List, [], ◌∷◌, ◌++◌}
 use Rattle.std.proofs.Math.Option.{Option, none, some}

@@ -1,3 +1,2 @@
 // The listing as definitions: see specs/.
 #![tactic(auto)]
-

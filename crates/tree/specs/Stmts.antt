@@ -7,7 +7,7 @@ use Rattle.ast.specs.declared.ClassicalType.{ClassicalType}
 use Rattle.ast.specs.declared.ClassicalQualifier.{ClassicalQualifier}
 use Rattle.ast.specs.declared.AssignOp.{AssignOp}
 use Rattle.tree.specs.Limits.{expr_levels}
-use Rattle.tree.specs.Ans.{Reader, ◌>>=◌, ◌>>◌, done, here, refuse}
+use Rattle.tree.specs.Ans.{Reader, ◌>>=◌, done, here, refuse}
 use Rattle.tree.specs.Read.{u16, u64, span, one_of, case_byte, option, vec, repeat}
 use Rattle.tree.specs.Texts.{is_path}
 use Rattle.tree.specs.Exprs.{text_number, name, expr, exprs}

@@ -1,8 +1,8 @@
 -- An Option of a number: by its first byte, and the eight behind it.
 use Prim.Native.Nat.{◌+◌, ◌≤◌}
-use mathlib.Core.Path.{◌≡◌, sym, ◌∙◌}
+use mathlib.Core.Path.{sym, ◌∙◌}
 use native.Mathlib.Omega.{arith}
-use lib.ListN.{length, get_or}
+use lib.ListN.{length}
 use Rattle.accepted.specs.Fields.{option_in, option-none}
 use Rattle.accepted.specs.Operands.{some_number_inside}
 use Rattle.accepted.proofs.ReadOperands.{number_read}
