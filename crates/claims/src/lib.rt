@@ -1,3 +1,2 @@
 // What is claimed of a call, as theorems: see specs/ and proofs/.
 #![tactic(auto)]
-

@@ -2,9 +2,8 @@
 use Prim.Native.Nat.{ℕ, zero, suc, ◌+◌, ◌*◌, ◌≤◌, ◌<◌, min}
 use Rattle.std.specs.Prelude.{◌≡◌, refl, List, [], ◌∷◌, ◌++◌, true, false, length, get_or, set}
 use Rattle.std.proofs.Common.{ap, ◌∙◌, arith, length-set, length-append, get_or-set_same, get_or-set_other}
-use Rattle.std.proofs.Math.Option.{none, some}
+use Rattle.std.proofs.Math.Option.{some}
 use Rattle.ast.specs.Tree.{TextNumber}
-use Rattle.sema.specs.Symbols.{after}
 use Rattle.sema.specs.Marks.{Key, key}
 use Rattle.sema.specs.Keys.{has_key, add_key, add_indices, add_range}
 use Rattle.context.specs.View.{key_by, key_at, keys_from, keys_in}

@@ -1,5 +1,4 @@
 -- `typing::cases::index_type` meets its contract. Assumes nothing.
-use borrow.Author.Tests.{not-true, not-false}
 use Rattle.typing.proofs.Names.{index-other, index_unsized, index-inside, index-beyond}
 use borrow.Author.Rules.{rules}
 use Rattle.typing.proofs.cases.index_type.Statement.{statement}
