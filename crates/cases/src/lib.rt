@@ -1,11 +1,12 @@
 // Reads the trees of a file of cases, each behind its length in four bytes.
 #![tactic(auto)]
 
-ghost use Rattle.std.specs.Prelude.{◌<◌, ◌≤◌, length, IfOk};
-ghost use Rattle.cases.specs.Case.{size_of};
+ghost use Rattle.std.specs.Prelude.{◌<◌, ◌≤◌, length, take, IfOk};
+ghost use Rattle.std.specs.Io.KnownBytes.{Consumes, IsAtEnd};
+ghost use Rattle.cases.specs.Case.{size_of, Taken};
 
 use std::io;
-use std::io::{ErrorKind, Read};
+use std::io::Read;
 use text::wide;
 
 #[derive(Clone, Copy)]
@@ -16,29 +17,25 @@ pub enum Case {
 
 // Reads until the buffer is full or the input ends: how many bytes were read.
 pub fn read_full<R: Read>(input: &mut R, buffer: &mut [u8]) -> io::Result<usize>
-    ensures { IfOk result (λ n. n ≤ length buffer.new) }
+    ensures bound { IfOk result (λ n. n ≤ length buffer.new) }
+    ensures bytes { IfOk result (λ n. Consumes (R.remaining input.old) (R.remaining input.new) (take n buffer.new)) }
+    ensures end { IfOk result (λ n. n < length buffer.new → IsAtEnd (R.remaining input.new)) }
 {
     let mut at = 0;
-    for _ in 0..u64::MAX {
-        if at == buffer.len() {
+    while at < buffer.len() {
+        let n = input.read(&mut buffer[at..])?;
+        if n == 0 {
             break;
         }
-        match input.read(&mut buffer[at..]) {
-            Ok(0) => break,
-            Ok(n) => at += n,
-            Err(e) => {
-                if e.kind() != ErrorKind::Interrupted {
-                    return Err(e);
-                }
-            }
-        }
+        at += n;
     }
     Ok(at)
 }
 
 // The next tree, at the beginning of the space; the end also where it has no room or is cut short.
 pub fn next<R: Read>(input: &mut R, space: &mut [u8]) -> io::Result<Case>
-    ensures { IfOk result (λ c. size_of c ≤ length space.new) }
+    ensures size { IfOk result (λ c. size_of c ≤ length space.new) }
+    ensures taken { IfOk result (Taken (R.remaining input.old) (R.remaining input.new) space.new) }
 {
     let mut size = [0u8; 4];
     if read_full(input, &mut size)? < 4 {
