@@ -22,14 +22,14 @@ note-line-requires c κs =
 returns-2 : tie.Need-returns
 returns-2 c =
     let s = c in
-    reported s.args.sink _ s.args.d s.requires.2 (omega (arith, c.if-errors-warnings-gt256.false)) c.message_line-a.ensures c.note_line-b.ensures c.counted.ensures
+    reported s.args.sink _ s.args.d s.requires.2 (omega arith) c.message_line-a.ensures c.note_line-b.ensures c.counted.ensures
 
 pub report_spec : {M : Type 1} → statement M
 report_spec =
     tie.close (tie.spec
     (λ c. search rules)  -- cast-n
     (λ c. search rules)  -- add-if1
-    (λ c. let s = c in report_past _ s.args.d s.args.sink _ s.requires.2 c.if-errors-warnings-gt256.true)  -- returns
+    (λ c. let s = c in report_past _ s.args.d s.args.sink _ s.requires.2 (omega arith))  -- returns
     (λ c. search rules)  -- slice-aggregate-message-line
     message-line-requires
     (λ c. search rules)  -- slice-aggregate-note-line

@@ -180,7 +180,7 @@ module _ (t : ℕ) where
       (λ c κs. some_below c.requires.1 c.if-tree-k-eq0.false c.enter.ensures c.requires.0)  -- analyze-stmts-requires
       (λ c. search rules) (λ c. search rules)  -- same_length, same-length-2
       (λ c. some-over c.requires.1 c.if-tree-k-eq0.false c.enter.ensures c.analyze_stmts-e.ensures c.if-e-eq-OVER.true)  -- returns-2
-      (λ c κs. let v = c.analyze_stmts-e.ensures in (c.requires.1.placed.whole, (v.walked (within v.added c.if-e-eq-OVER.false)).placed.whole))  -- unite-requires-2
+      (λ c κs. let v = c.analyze_stmts-e.ensures in let p = c.requires.1.placed.whole in let q = (v.walked (within v.added c.if-e-eq-OVER.false)).placed.whole in (cc, cc))  -- unite-requires-2
       (λ c. search rules) (λ c. search rules)  -- same-length-3, same-length-4
       (λ c. some_went c.requires.1 c.if-tree-k-eq0.false c.enter.ensures c.analyze_stmts-e.ensures _ refl refl refl c.unite-2.ensures)  -- returns-3
 
