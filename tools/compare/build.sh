@@ -10,4 +10,4 @@ sed -e 's/for index in start..=end {/for index in crate::wide::indices(start, en
     target/qasm/sema.rs > target/qasm/sema_wide.rs
 changed=$(diff target/qasm/sema.rs target/qasm/sema_wide.rs | grep -c '^>')
 [ "$changed" -eq 5 ] || { echo "build.sh: $changed lines changed, not 5" >&2; exit 1; }
-rustc -O --edition 2021 -o target/compare -L crates/puntsalak/out -l static=puntsalak tools/compare/main.rs
+rustc -O --edition 2021 -o target/compare -L target/staticlib -l static=puntsalak tools/compare/main.rs

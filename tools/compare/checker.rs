@@ -1,4 +1,4 @@
-//! The proved checker, from crates/puntsalak/out/libpuntsalak.a.
+//! The proved checker, from target/staticlib/libpuntsalak.a.
 
 use std::fmt;
 

@@ -1,4 +1,4 @@
-// The checker for C: include/puntsalak.h.
+// The checker with its answer as four numbers, as C is given it: crates/puntsalak_c exports it.
 #![tactic(auto)]
 
 ghost use Rattle.std.specs.Prelude.{◌≡◌, ℕ, length};
@@ -24,13 +24,7 @@ fn four(a: Answer) -> [u64; 4]
     }
 }
 
-#[unsafe(no_mangle)]
-pub extern "C" fn puntsalak_check(
-    tree: &[u8],
-    scratch: &mut [u8],
-    listing: &mut [u8],
-    answer: &mut [u64; 4],
-)
+pub fn puntsalak_check(tree: &[u8], scratch: &mut [u8], listing: &mut [u8], answer: &mut [u64; 4])
     ensures answers { answer.new ≡ four_of (answerTo tree.now (length scratch.old) (length listing.old)) }
     ensures listed { listing.new ≡ listing_after tree.now listing.old (answerTo tree.now (length scratch.old) (length listing.old)) }
     ensures cleared { scratch.new ≡ scratch_after scratch.old }
