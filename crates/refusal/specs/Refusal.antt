@@ -1,0 +1,15 @@
+-- The numbers of the refusals.
+use Rattle.std.specs.Prelude.{ℕ}
+use Rattle.refusal.specs.declared.Refusal.{Refusal}
+use Rattle.refusal.specs.declared.Refusal.TheVariants.{ShortScratch, LongTree, WrongEnd, NotAllowed, LargeCount, TooDeep, ManyKeys, ManyDiagnostics, LongListing}
+
+abbrev pub number_of : Refusal → ℕ
+number_of ShortScratch = 1
+number_of LongTree = 2
+number_of WrongEnd = 3
+number_of NotAllowed = 4
+number_of LargeCount = 5
+number_of TooDeep = 6
+number_of ManyKeys = 7
+number_of ManyDiagnostics = 8
+number_of LongListing = 9
