@@ -1,6 +1,6 @@
 -- What accepted bodies and statements say of their parts, before the cases: the count and the statements of a body, an `else`, the case byte
 -- of a statement, the levels left, and where a statement ends. Assumes nothing.
-use Rattle.std.specs.Prelude.{ℕ, ◌+◌, ◌≤◌, ◌<◌, ◌≡◌, List, length, get_or}
+use Rattle.std.specs.Prelude.{ℕ, ◌+◌, ◌-◌, ◌≤◌, ◌<◌, ◌≡◌, List, length, get_or}
 use Rattle.std.proofs.Math.Path.{refl}
 use Rattle.std.proofs.Common.{ap, subst, arith}
 use Rattle.ast.specs.Tree.{Text, Stmt, no_stmt, more_stmt, no_else, some_else}
@@ -32,6 +32,10 @@ module _ (inner : Reader Stmt) (s : List ℕ) (at : ℕ) (h : IsOk (body inner s
 
   pub body-start : (n : ℕ) → n ≡ number_at 2 s at → Remains no_stmt more_stmt inner s (next_of (body inner s at)) n (at + 2)
   body-start n e = rw e (record { rest = body-held; same = ap next_of body_is })
+
+  -- where none was stepped over yet
+  pub body-started : (n : ℕ) → n ≡ number_at 2 s at → Remains no_stmt more_stmt inner s (next_of (body inner s at)) (n - 0) (at + 2)
+  body-started n e = body-start (n - 0) (omega (arith, e))
 
 -- the body of an `else`, behind a byte that is not 0
 module _ (inner : Reader Stmt) (s : List ℕ) (at : ℕ) (h : IsOk (else_body inner s at)) where

@@ -6,8 +6,6 @@ ghost use Rattle.tree.specs.Exprs.{expr, exprs};
 ghost use Rattle.tree.specs.Stmts.{held};
 ghost use Rattle.tree.specs.Decode.{texts_of};
 
-use text::wide;
-
 // The place past an expression with so many levels left.
 #[cycle(skip_expr_skip_exprs)]
 pub fn skip_expr(s: &[u8], at: usize, left: usize) -> usize
@@ -37,11 +35,9 @@ pub fn skip_exprs(s: &[u8], at: usize, left: usize) -> usize
     requires { IsOk (exprs (expr (texts_of s.now) left) s.now at) }
     ensures { result ≡ next_of (exprs (expr (texts_of s.now) left) s.now at) }
 {
-    let mut n = wide(s[at]);
     let mut k = at + 1;
-    while 0 < n {
+    for _ in 0..s[at] {
         k = skip_expr(s, k, left);
-        n -= 1;
     }
     k
 }

@@ -9,7 +9,6 @@ ghost use Rattle.accepted.specs.Sizes.{option_end};
 
 use crate::exprs::{skip_expr, skip_option_expr};
 use crate::singles::is_single;
-use text::wide;
 
 // The place past an Option of a value of so many bytes.
 fn skip_option(s: &[u8], at: usize, size: usize) -> usize
@@ -51,7 +50,7 @@ pub fn skip_names(s: &[u8], at: usize) -> usize
     requires { IsOk (vec (name (texts_of s.now)) s.now at) }
     ensures { result ≡ next_of (vec (name (texts_of s.now)) s.now at) }
 {
-    at + 1 + wide(s[at]) * 2
+    at + 1 + usize::from(s[at]) * 2
 }
 
 // Past the parameters of a function.
@@ -59,7 +58,7 @@ pub fn skip_params(s: &[u8], at: usize) -> usize
     requires { IsOk (vec (param (texts_of s.now)) s.now at) }
     ensures { result ≡ next_of (vec (param (texts_of s.now)) s.now at) }
 {
-    at + 1 + wide(s[at]) * 3
+    at + 1 + usize::from(s[at]) * 3
 }
 
 pub fn skip_operand(s: &[u8], at: usize) -> usize
@@ -87,11 +86,9 @@ pub fn skip_operands(s: &[u8], at: usize) -> usize
     requires { IsOk (vec (operand (texts_of s.now)) s.now at) }
     ensures { result ≡ next_of (vec (operand (texts_of s.now)) s.now at) }
 {
-    let mut n = wide(s[at]);
     let mut k = at + 1;
-    while 0 < n {
+    for _ in 0..s[at] {
         k = skip_operand(s, k);
-        n -= 1;
     }
     k
 }
@@ -111,11 +108,9 @@ pub(crate) fn skip_modifiers(s: &[u8], at: usize) -> usize
     requires { IsOk (vec (modifier (texts_of s.now)) s.now at) }
     ensures { result ≡ next_of (vec (modifier (texts_of s.now)) s.now at) }
 {
-    let mut n = wide(s[at]);
     let mut k = at + 1;
-    while 0 < n {
+    for _ in 0..s[at] {
         k = skip_modifier(s, k);
-        n -= 1;
     }
     k
 }

@@ -7,16 +7,14 @@ ghost use Rattle.context.specs.Values.{operand_of};
 ghost use Rattle.accepted.specs.Singles.{is_single};
 
 use crate::numbers::{span_at, u16_at, u64_at};
-use context::{Ends, GateOperand, Number};
+use context::GateOperand;
 
+#[tactic(auto, unfolding(crate::specs::Singles::is_single))]
 pub fn is_single(s: &[u8], at: usize) -> bool
     requires { IsOk (operand (texts_of s.now) s.now at) }
     ensures { result ≡ is_single s.now at }
 {
-    if s[at + 2] == 0 {
-        return false;
-    }
-    s[at + 11] == 0
+    s[at + 2] != 0 && s[at + 11] == 0
 }
 
 pub fn single_at(s: &[u8], at: usize) -> GateOperand
@@ -27,8 +25,8 @@ pub fn single_at(s: &[u8], at: usize) -> GateOperand
     let span = span_at(s, at + 12);
     GateOperand {
         name: u16_at(s, at),
-        index: Number::Some(i),
-        slice: Ends::None,
+        index: Some(i),
+        slice: None,
         span,
     }
 }

@@ -21,8 +21,7 @@ fn skip_stmt(s: &[u8], at: usize, left: usize) -> usize
     let s = &s[..]; // as in skip_expr: loaded one by one
     match s[at] {
         0 => at + 11,
-        1 => skip_number(s, at + 3) + 8,
-        2 => skip_number(s, at + 3) + 8,
+        1 | 2 => skip_number(s, at + 3) + 8,
         3 => skip_classical_decl(s, at, left),
         4 => skip_expr(s, at + 4, 32) + 8,
         5 => skip_gate_call(s, at, left),
@@ -112,11 +111,9 @@ pub fn skip_body(s: &[u8], at: usize, left: usize) -> usize
     requires { IsOk (body (stmt (texts_of s.now) left) s.now at) }
     ensures { result ≡ next_of (body (stmt (texts_of s.now) left) s.now at) }
 {
-    let mut n = u16_at(s, at);
     let mut k = at + 2;
-    while 0 < n {
+    for _ in 0..u16_at(s, at) {
         k = skip_stmt(s, k, left);
-        n -= 1;
     }
     k
 }

@@ -11,42 +11,44 @@ pub struct TreeReader<'a> {
     pub at: usize,
 }
 
-pub fn byte<'a>(r: TreeReader<'a>) -> u8
-    requires { r.at < length r.tree.now }
-    ensures { result ≡ get_or r.entry.tree.now r.entry.at 0 }
-{
-    byte_at(r.tree, r.at)
-}
+impl<'a> TreeReader<'a> {
+    pub fn byte(self) -> u8
+        requires { self.at < length self.tree.now }
+        ensures { result ≡ get_or self.entry.tree.now self.entry.at 0 }
+    {
+        byte_at(self.tree, self.at)
+    }
 
-// The number of a text.
-pub fn text<'a>(r: TreeReader<'a>) -> usize
-    requires { r.at + 2 ≤ length r.tree.now }
-    ensures { (result ≡ number_at 2 r.entry.tree.now r.entry.at) × (result < 65536) }
-{
-    u16_at(r.tree, r.at)
-}
+    // The number of a text.
+    pub fn text(self) -> usize
+        requires { self.at + 2 ≤ length self.tree.now }
+        ensures { (result ≡ number_at 2 self.entry.tree.now self.entry.at) × (result < 65536) }
+    {
+        u16_at(self.tree, self.at)
+    }
 
-pub fn number<'a>(r: TreeReader<'a>) -> u64
-    requires { r.at + 8 ≤ length r.tree.now }
-    ensures { result ≡ number_at 8 r.entry.tree.now r.entry.at }
-{
-    u64_at(r.tree, r.at)
-}
+    pub fn number(self) -> u64
+        requires { self.at + 8 ≤ length self.tree.now }
+        ensures { result ≡ number_at 8 self.entry.tree.now self.entry.at }
+    {
+        u64_at(self.tree, self.at)
+    }
 
-pub fn span<'a>(r: TreeReader<'a>) -> Span
-    requires { r.at + 8 ≤ length r.tree.now }
-    ensures { result ≡ span_at r.entry.tree.now r.entry.at }
-{
-    span_at(r.tree, r.at)
-}
+    pub fn span(self) -> Span
+        requires { self.at + 8 ≤ length self.tree.now }
+        ensures { result ≡ span_at self.entry.tree.now self.entry.at }
+    {
+        span_at(self.tree, self.at)
+    }
 
-// The reader so many bytes further on.
-pub fn skip<'a>(r: TreeReader<'a>, n: usize) -> TreeReader<'a>
-    requires { r.at + n ≤ length r.tree.now }
-    ensures { (result.tree ≡ r.entry.tree) × (result.at ≡ r.entry.at + n) }
-{
-    TreeReader {
-        tree: r.tree,
-        at: r.at + n,
+    // The reader so many bytes further on.
+    pub fn skip(self, n: usize) -> Self
+        requires { self.at + n ≤ length self.tree.now }
+        ensures { (result.tree ≡ self.entry.tree) × (result.at ≡ self.entry.at + n) }
+    {
+        Self {
+            tree: self.tree,
+            at: self.at + n,
+        }
     }
 }
