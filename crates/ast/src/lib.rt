@@ -1,7 +1,7 @@
 // The plain enums of ast.rs, cases in the order of the source: a case's byte in the tree file is its place in this order.
 #![tactic(auto)]
 
-#[derive(Clone, Copy)]
+#[derive(Clone, Copy, Debug, PartialEq, Eq)]
 pub enum ClassicalType {
     Int,
     UInt,
@@ -10,21 +10,21 @@ pub enum ClassicalType {
     Bool,
 }
 
-#[derive(Clone, Copy)]
+#[derive(Clone, Copy, Debug, PartialEq, Eq)]
 pub enum ClassicalQualifier {
     Const,
     Input,
     Output,
 }
 
-#[derive(Clone, Copy)]
+#[derive(Clone, Copy, Debug, PartialEq, Eq)]
 pub enum AssignOp {
     Assign,
     AddAssign,
     SubAssign,
 }
 
-#[derive(Clone, Copy)]
+#[derive(Clone, Copy, Debug, PartialEq, Eq)]
 pub enum BinOp {
     Add,
     Sub,
@@ -33,7 +33,7 @@ pub enum BinOp {
     Pow,
 }
 
-#[derive(Clone, Copy)]
+#[derive(Clone, Copy, Debug, PartialEq, Eq)]
 pub enum CompareOp {
     Eq,
     Ne,
@@ -43,7 +43,7 @@ pub enum CompareOp {
     Ge,
 }
 
-#[derive(Clone, Copy)]
+#[derive(Clone, Copy, Debug, PartialEq, Eq)]
 pub enum ConstKind {
     Pi,
     Tau,

@@ -13,7 +13,8 @@ use Rattle.tree.specs.Stmts.{body, stmt}
 use Rattle.tree.specs.Decode.{texts_of}
 use Rattle.sema.specs.Symbols.{gate_scope, Symbols}
 use Rattle.context.specs.declared.Sink.{Sink}
-use Rattle.context.specs.declared.FoundGate.{FoundGate}
+use Rattle.context.specs.declared.GateSig.{GateSig as GateValue}
+use Rattle.std.specs.Prelude.{Option as Maybe, Some, None}
 use Rattle.context.specs.declared.GateSig.{GateSig}
 use Rattle.context.specs.declared.State.{State}
 use Rattle.context.specs.Sink.{SinkFits}
@@ -42,10 +43,10 @@ parts_of tree left at x k m n sp h b x-is k_is m-is n-is sp-is = record {
 
 -- what is said of the name: nothing where no gate was found
 module _ {t : List Text} (s : List ℕ) {o : List ℕ} {sink : Sink} (x : ℕ) (sp : Span) where
-  pub gate_unknown : {found : FoundGate} → found_gate_of found ≡ gates_of s x → found ≡ FoundGate.None → SinkFits sink → Emitted t (gate_known (gates_of s) x sp) sink o sink o
+  pub gate_unknown : {found : Maybe GateValue} → found_gate_of found ≡ gates_of s x → found ≡ None → SinkFits sink → Emitted t (gate_known (gates_of s) x sp) sink o sink o
   gate_unknown e n f = rw (← e, n) (emitted-none f)
 
-  pub gate_known_lem : {o' : List ℕ} {r : Sink} {found : FoundGate} {g : GateSig} {d : Diagnostic} → found_gate_of found ≡ gates_of s x → found ≡ FoundGate.Some g → d ≡ error_of (Message.GateAlreadyDefined x) sp → Reported t d sink o r o' → Emitted t (gate_known (gates_of s) x sp) sink o r o'
+  pub gate_known_lem : {o' : List ℕ} {r : Sink} {found : Maybe GateValue} {g : GateSig} {d : Diagnostic} → found_gate_of found ≡ gates_of s x → found ≡ Some g → d ≡ error_of (Message.GateAlreadyDefined x) sp → Reported t d sink o r o' → Emitted t (gate_known (gates_of s) x sp) sink o r o'
   gate_known_lem e n d p = rw (← e, n) (emitted_report d p)
 
 -- a gate defined, and then its scope entered

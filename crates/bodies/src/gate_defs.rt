@@ -15,7 +15,7 @@ ghost use Rattle.bodies.specs.Parts.{GatePartsOf, GateEntered};
 use accepted::numbers::{span_at, u16_at};
 use accepted::parts::skip_names;
 use accepted::stmts::skip_body;
-use context::{FoundGate, GateSig, Index, Sink};
+use context::{GateSig, Index, Sink};
 use lines::Message;
 use span::Span;
 use text::wide;
@@ -58,7 +58,7 @@ pub fn report_gate(
     requires { TextsAt tree.now index.now × (65536 ≤ length scratch.now) × SinkFits sink × (x < length (texts_of tree.now)) }
     ensures { Emitted (texts_of tree.now) (gate_known (gates_of scratch.now) x span) sink out.old result out.new }
 {
-    let FoundGate::Some(_) = tables::gate(scratch, x) else {
+    let Some(_) = tables::gate(scratch, x) else {
         return sink;
     };
     lines::report(

@@ -8,30 +8,22 @@ ghost use Rattle.context.specs.Values.{kind_of};
 
 use ast::ClassicalType;
 use span::Span;
-use types::Typed;
 
 // The places of the texts, then two numbers for each key.
 pub type Index = [u64; 768];
 
-// An Option of a number.
+// A value that was read, and the place past it.
 #[derive(Clone, Copy)]
-pub enum Number {
-    Some(u64),
-    None,
-}
-
-// An Option of the two ends of a slice.
-#[derive(Clone, Copy)]
-pub enum Ends {
-    Some(u64, u64),
-    None,
+pub struct Past<T> {
+    pub value: T,
+    pub next: usize,
 }
 
 #[derive(Clone, Copy)]
 pub struct GateOperand {
     pub name: usize,
-    pub index: Number,
-    pub slice: Ends,
+    pub index: Option<u64>,
+    pub slice: Option<(u64, u64)>,
     pub span: Span,
 }
 
@@ -46,30 +38,18 @@ pub enum SymbolKind {
 }
 
 // What goes for a bit, and what an expression takes an index of.
+#[tactic(auto, unfolding(sema::specs::Operands::fits))]
 pub fn is_bit(kind: SymbolKind) -> bool
     ensures { result ≡ fits a_bit (kind_of kind) }
 {
-    match kind {
-        SymbolKind::Bit => true,
-        SymbolKind::Qubit => false,
-        SymbolKind::Classical(_) => false,
-        SymbolKind::Const(_) => false,
-        SymbolKind::GateParam => false,
-        SymbolKind::GateQubit => false,
-    }
+    matches!(kind, SymbolKind::Bit)
 }
 
 #[derive(Clone, Copy)]
 pub struct Symbol {
     pub kind: SymbolKind,
-    pub size: Number,
+    pub size: Option<u64>,
     pub decl_span: Span,
-}
-
-#[derive(Clone, Copy)]
-pub enum FoundSymbol {
-    Some(Symbol),
-    None,
 }
 
 #[derive(Clone, Copy)]
@@ -79,24 +59,12 @@ pub struct GateSig {
     pub decl_span: Span,
 }
 
-#[derive(Clone, Copy)]
-pub enum FoundGate {
-    Some(GateSig),
-    None,
-}
-
 // The types of the parameters are read one by one.
 #[derive(Clone, Copy)]
 pub struct FunctionSig {
     pub param_count: usize,
     pub return_type: ClassicalType,
     pub decl_span: Span,
-}
-
-#[derive(Clone, Copy)]
-pub enum FoundFunction {
-    Some(FunctionSig),
-    None,
 }
 
 // How far the listing is: its length, and the diagnostics in it. It is passed by value everywhere, so it is 8 bytes.
@@ -110,7 +78,7 @@ pub struct Sink {
 // What an expression is found to be, the place past it, and the listing after what is said of it.
 #[derive(Clone, Copy)]
 pub struct Typing {
-    pub typed: Typed,
+    pub typed: Option<ClassicalType>,
     pub next: usize,
     pub sink: Sink,
 }

@@ -21,7 +21,7 @@ use Rattle.accepted.specs.Parts.{next_is, given_is}
 use Rattle.accepted.specs.Stmts.{qubit_decl_is, bit_decl_is}
 use Rattle.context.specs.declared.Sink.{Sink}
 use Rattle.context.specs.declared.Symbol.{Symbol as SymbolValue}
-use Rattle.context.specs.declared.FoundSymbol.{FoundSymbol}
+use Rattle.std.specs.Prelude.{Option as Maybe, Some, None}
 use Rattle.context.specs.declared.State.{State}
 use Rattle.context.specs.Values.{number_of, kind_of, found_of}
 use Rattle.context.specs.View.{keys_in, scopes_of, gates_of, functions_of, marks_of, context_of, stmt_span}
@@ -61,7 +61,7 @@ says_by f ss x sp e = ap (λ o. declared_says o x sp) e ∙ by (get_current ss x
     by none = refl
     by (some prev) = refl
 
-pub declared : {t : List Text} {depth x : ℕ} {symbol : SymbolValue} {s : Sink} {scratch o : List ℕ} {r : Sink} {scratch' o' : List ℕ} (f : FoundSymbol) → found_of f ≡ get_current (scopes_of scratch depth) x
+pub declared : {t : List Text} {depth x : ℕ} {symbol : SymbolValue} {s : Sink} {scratch o : List ℕ} {r : Sink} {scratch' o' : List ℕ} (f : Maybe SymbolValue) → found_of f ≡ get_current (scopes_of scratch depth) x
     → Becomes scratch scratch' depth (declare (scopes_of scratch depth) x (kind_of symbol.kind) (number_of symbol.size) symbol.decl_span) (gates_of scratch) (functions_of scratch)
     → ((d : ℕ) → d < depth → scopes_of scratch' d ≡ scopes_of scratch d)
     → Emitted t (declared_says (found_of f) x symbol.decl_span) s o r o'

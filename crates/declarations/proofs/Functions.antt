@@ -24,7 +24,7 @@ use Rattle.accepted.specs.Stmts.{function_def-named, function_def-params, functi
 use Rattle.context.specs.declared.Sink.{Sink}
 use Rattle.context.specs.declared.Typing.{Typing}
 use Rattle.context.specs.declared.FunctionSig.{FunctionSig as FunctionValue}
-use Rattle.context.specs.declared.FoundFunction.{FoundFunction}
+use Rattle.std.specs.Prelude.{Option as Maybe, Some, None}
 use Rattle.context.specs.declared.State.{State}
 use Rattle.context.specs.Sink.{SinkFits}
 use Rattle.context.specs.Values.{typed_of}
@@ -83,7 +83,7 @@ module _ (fs : Table FunctionSig) (x : ℕ) (ps : List (ClassicalType × TextNum
   define_again f e = rw (e, define_function)
 
 -- what was found, by what the table has
-brief_none : (f : Option FunctionSig) → FoundFunction.None ≡ brief_of f → f ≡ none
+brief_none : (f : Option FunctionSig) → None ≡ brief_of f → f ≡ none
 brief_none none e = refl
 brief_none (some f) e = let z : ◌≡◌ {A = ℕ} 0 1 = cc in absurd (omega arith)
 
@@ -92,7 +92,7 @@ record Had (f : Option FunctionSig) (p : FunctionValue) : Type 0 where
   is : f ≡ some had
   same_span : p.decl_span ≡ had.decl_span
 
-brief_some : (f : Option FunctionSig) (p : FunctionValue) → FoundFunction.Some p ≡ brief_of f → Had f p
+brief_some : (f : Option FunctionSig) (p : FunctionValue) → Some p ≡ brief_of f → Had f p
 brief_some none p e = let z : ◌≡◌ {A = ℕ} 0 1 = cc in absurd (omega arith)
 brief_some (some f) p e = record { had = f; is = refl; same_span = cc }
 
@@ -101,7 +101,7 @@ unfolding defined_says
 says-again f p x sp h = rw (h.is, h.same_span)
 
 module _ (tree : List ℕ) (at : ℕ) (f : Function) {s : Sink} {scratch o : List ℕ} (few : FewParams (functions_of scratch)) where
-  pub defined-again : {r : Sink} {o' : List ℕ} (found : FoundFunction) (prev : FunctionValue) → found ≡ brief_of (functions_of scratch f.name) → found ≡ FoundFunction.Some prev
+  pub defined-again : {r : Sink} {o' : List ℕ} (found : Maybe FunctionValue) (prev : FunctionValue) → found ≡ brief_of (functions_of scratch f.name) → found ≡ Some prev
       → Emitted (texts_of tree) (error_with_note (Messages.function_already_defined f.name) f.span Messages.first_defined prev.decl_span ∷ []) s o r o' → Defined tree at f s scratch o r scratch o'
   unfolding defined_says
   defined-again found prev e g m =
@@ -113,7 +113,7 @@ module _ (tree : List ℕ) (at : ℕ) (f : Function) {s : Sink} {scratch o : Lis
         emitted = emitted_as m (says-again _ prev f.name f.span had);
       }
 
-  pub defined-new : {scratch' : List ℕ} (found : FoundFunction) (n : ℕ) → IsOk (vec (param (texts_of tree)) tree at) → SinkFits s → found ≡ brief_of (functions_of scratch f.name) → found ≡ FoundFunction.None → n ≡ get_or tree at 0
+  pub defined-new : {scratch' : List ℕ} (found : Maybe FunctionValue) (n : ℕ) → IsOk (vec (param (texts_of tree)) tree at) → SinkFits s → found ≡ brief_of (functions_of scratch f.name) → found ≡ None → n ≡ get_or tree at 0
       → FunctionDefined scratch scratch' f.name (function_in tree (at + 1) n f.return_type f.span) → Defined tree at f s scratch o s scratch' o
   unfolding defined_says
   defined-new found n h fits e g c b =

@@ -7,8 +7,8 @@ use native.Mathlib.Omega.{arith}
 use Rattle.span.specs.declared.Span.{Span}
 use Rattle.ast.specs.Tree.{Text}
 use Rattle.ast.specs.declared.ClassicalType.{ClassicalType}
-use Rattle.types.specs.declared.Typed.{Typed}
-use Rattle.types.specs.declared.Typed.TheVariants.{«Type», None}
+use Rattle.context.specs.declared.Symbol.{Symbol as SymbolValue}
+use Rattle.std.specs.Prelude.{Option as Maybe, Some, None}
 use Rattle.types.specs.Types.{assignable_to, numeric}
 use Rattle.sema.specs.Messages
 use Rattle.sema.specs.Messages.{Diagnostic, error}
@@ -19,7 +19,6 @@ use Rattle.accepted.specs.Cases.{assign_op_of}
 use Rattle.context.specs.declared.Sink.{Sink}
 use Rattle.context.specs.declared.SymbolKind.{SymbolKind}
 use Rattle.context.specs.declared.Symbol.{Symbol}
-use Rattle.context.specs.declared.FoundSymbol.{FoundSymbol}
 use Rattle.context.specs.Sink.{SinkFits}
 use Rattle.context.specs.Values.{kind_of, typed_of, found_of}
 use Rattle.lines.specs.declared.Message.{Message}
@@ -29,7 +28,7 @@ use Rattle.promises.specs.Emitted.{Emitted, emitted-none, emitted_then, emitted_
 use Rattle.declarations.specs.Says.{declared_says, spanned, target_type, refusal}
 
 -- none and a type differ
-never : {C : Type 0} {ty : ClassicalType} → ◌≡◌ {A = Typed} None («Type» ty) → C
+never : {C : Type 0} {ty : ClassicalType} → ◌≡◌ {A = Maybe ClassicalType} None (Some ty) → C
 never e = let z : ◌≡◌ {A = ℕ} 0 1 = cc in absurd (omega arith)
 
 -- the message on each kind names the target
@@ -56,7 +55,7 @@ module _ {t : List Text} {s : Sink} {o : List ℕ} where
   pub silent : {ds : List Diagnostic} → ds ≡ [] → SinkFits s → Emitted t ds s o s o
   silent e f = emitted_as (emitted-none f) (sym e)
 
-  pub declared-none : (f : FoundSymbol) (x : ℕ) (sp : Span) → f ≡ FoundSymbol.None → SinkFits s → Emitted t (declared_says (found_of f) x sp) s o s o
+  pub declared-none : (f : Maybe SymbolValue) (x : ℕ) (sp : Span) → f ≡ None → SinkFits s → Emitted t (declared_says (found_of f) x sp) s o s o
   unfolding declared_says
   declared-none f x sp e h = silent (rw e) h
 
@@ -69,16 +68,16 @@ module _ {t : List Text} {s : Sink} {o : List ℕ} where
   pub numeric_assign : (op : ℕ) (b k : Bool) (d : Diagnostic) → k ≡ b → k ≡ true → SinkFits s → Emitted t (unless (is_assign (assign_op_of op) || b) d) s o s o
   numeric_assign op b k d e f h = silent (rw (sym e ∙ f, or-true)) h
 
-  pub assign_none : (x : ℕ) (op : ℕ) (v sp : Span) (expected : ClassicalType) (ty : Typed) → ty ≡ None → SinkFits s → Emitted t (assign_says x (assign_op_of op) (spanned v) sp expected (typed_of ty)) s o s o
+  pub assign_none : (x : ℕ) (op : ℕ) (v sp : Span) (expected : ClassicalType) (ty : Maybe ClassicalType) → ty ≡ None → SinkFits s → Emitted t (assign_says x (assign_op_of op) (spanned v) sp expected (typed_of ty)) s o s o
   unfolding assign_says
   assign_none x op v sp expected ty e h = silent (rw e) h
 
-  pub mismatch-none : (d : ClassicalType → Diagnostic) (expected : ClassicalType) (ty : Typed) → ty ≡ None → SinkFits s → Emitted t (mismatch d expected (typed_of ty)) s o s o
+  pub mismatch-none : (d : ClassicalType → Diagnostic) (expected : ClassicalType) (ty : Maybe ClassicalType) → ty ≡ None → SinkFits s → Emitted t (mismatch d expected (typed_of ty)) s o s o
   unfolding mismatch
   mismatch-none d expected ty e h = silent (rw e) h
 
   module _ {r : Sink} {o' : List ℕ} where
-    pub declared-some : (f : FoundSymbol) (v : Symbol) (x : ℕ) (sp : Span) → f ≡ FoundSymbol.Some v → Emitted t (diagnostic_of (error_with_note_of (Message.AlreadyDeclared x) sp (Note.FirstDeclared x) v.decl_span) ∷ []) s o r o' → Emitted t (declared_says (found_of f) x sp) s o r o'
+    pub declared-some : (f : Maybe SymbolValue) (v : Symbol) (x : ℕ) (sp : Span) → f ≡ Some v → Emitted t (diagnostic_of (error_with_note_of (Message.AlreadyDeclared x) sp (Note.FirstDeclared x) v.decl_span) ∷ []) s o r o' → Emitted t (declared_says (found_of f) x sp) s o r o'
     unfolding declared_says
     declared-some f v x sp e h = emitted_as h (rw e)
 
@@ -88,18 +87,18 @@ module _ {t : List Text} {s : Sink} {o : List ℕ} where
     pub compound-refused : (op : ℕ) (b k : Bool) (d : Diagnostic) → (op ≡ 0 → ⊥) → op < 3 → k ≡ b → k ≡ false → Emitted t (d ∷ []) s o r o' → Emitted t (unless (is_assign (assign_op_of op) || b) d) s o r o'
     compound-refused op b k d z l e f h = emitted_as h (rw (compound op z l, ← e, f))
 
-    pub assign_some : {q : Sink} {o'' : List ℕ} (x op : ℕ) (v sp : Span) (expected actual : ClassicalType) (ty : Typed) → ty ≡ «Type» actual
+    pub assign_some : {q : Sink} {o'' : List ℕ} (x op : ℕ) (v sp : Span) (expected actual : ClassicalType) (ty : Maybe ClassicalType) → ty ≡ Some actual
         → Emitted t (unless (assignable_to expected actual) (diagnostic_of (error_of (Message.CannotAssign actual expected x) v))) s o q o''
         → Emitted t (unless (is_assign (assign_op_of op) || (numeric expected && numeric actual)) (error Messages.compound_numeric sp)) q o'' r o'
         → Emitted t (assign_says x (assign_op_of op) (spanned v) sp expected (typed_of ty)) s o r o'
     unfolding assign_says expr_span
     assign_some x op v sp expected actual ty e a b = emitted_as (emitted_then a b) (rw e)
 
-    pub mismatch-some : (d : ClassicalType → Diagnostic) (expected actual : ClassicalType) (ty : Typed) → ty ≡ «Type» actual → Emitted t (unless (assignable_to expected actual) (d actual)) s o r o' → Emitted t (mismatch d expected (typed_of ty)) s o r o'
+    pub mismatch-some : (d : ClassicalType → Diagnostic) (expected actual : ClassicalType) (ty : Maybe ClassicalType) → ty ≡ Some actual → Emitted t (unless (assignable_to expected actual) (d actual)) s o r o' → Emitted t (mismatch d expected (typed_of ty)) s o r o'
     unfolding mismatch
     mismatch-some d expected actual ty e h = emitted_as h (rw e)
 
-    pub kind-assigned : (x op : ℕ) (v sp : Span) (ty : Typed) (k : SymbolKind) (found : Typed) (expected : ClassicalType) → found ≡ target_type k → found ≡ «Type» expected → Emitted t (assign_says x (assign_op_of op) (spanned v) sp expected (typed_of ty)) s o r o' → Emitted t (target_says x (assign_op_of op) (spanned v) sp (typed_of ty) (kind_of k)) s o r o'
+    pub kind-assigned : (x op : ℕ) (v sp : Span) (ty : Maybe ClassicalType) (k : SymbolKind) (found : Maybe ClassicalType) (expected : ClassicalType) → found ≡ target_type k → found ≡ Some expected → Emitted t (assign_says x (assign_op_of op) (spanned v) sp expected (typed_of ty)) s o r o' → Emitted t (target_says x (assign_op_of op) (spanned v) sp (typed_of ty) (kind_of k)) s o r o'
     unfolding target_says
     kind-assigned x op v sp ty SymbolKind.Qubit found expected e f h = never (sym e ∙ f)
     kind-assigned x op v sp ty SymbolKind.Bit found expected e f h = never (sym e ∙ f)
@@ -108,7 +107,7 @@ module _ {t : List Text} {s : Sink} {o : List ℕ} where
     kind-assigned x op v sp ty SymbolKind.GateParam found expected e f h = never (sym e ∙ f)
     kind-assigned x op v sp ty SymbolKind.GateQubit found expected e f h = never (sym e ∙ f)
 
-    pub kind-refused : (x op : ℕ) (v sp : Span) (ty : Typed) (k : SymbolKind) (found : Typed) (m : Message) → found ≡ target_type k → found ≡ None → m ≡ refusal k x → Emitted t (diagnostic_of (error_of m sp) ∷ []) s o r o' → Emitted t (target_says x (assign_op_of op) (spanned v) sp (typed_of ty) (kind_of k)) s o r o'
+    pub kind-refused : (x op : ℕ) (v sp : Span) (ty : Maybe ClassicalType) (k : SymbolKind) (found : Maybe ClassicalType) (m : Message) → found ≡ target_type k → found ≡ None → m ≡ refusal k x → Emitted t (diagnostic_of (error_of m sp) ∷ []) s o r o' → Emitted t (target_says x (assign_op_of op) (spanned v) sp (typed_of ty) (kind_of k)) s o r o'
     unfolding target_says
     kind-refused x op v sp ty SymbolKind.Qubit found m e f g h = emitted_as h (rw g)
     kind-refused x op v sp ty SymbolKind.Bit found m e f g h = emitted_as h (rw g)

@@ -25,7 +25,7 @@ use Rattle.accepted.specs.Stmts.{assignment-value, assignment_is}
 use Rattle.context.specs.declared.Sink.{Sink}
 use Rattle.context.specs.declared.Typing.{Typing}
 use Rattle.context.specs.declared.Symbol.{Symbol as SymbolValue}
-use Rattle.context.specs.declared.FoundSymbol.{FoundSymbol}
+use Rattle.std.specs.Prelude.{Option as Maybe, Some, None}
 use Rattle.context.specs.declared.State.{State}
 use Rattle.context.specs.Values.{kind_of, typed_of, found_of}
 use Rattle.context.specs.View.{number_at, span_at, scopes_of, functions_of}
@@ -39,11 +39,11 @@ use Rattle.declarations.specs.Says.{spanned, target_by}
 use Rattle.accepted.specs.Spans.{span-here, span-room}
 
 module _ {t : List Text} {s : Sink} {o : List ℕ} {r : Sink} {o' : List ℕ} where
-  pub target_none : (ss : Symbols) (f : FoundSymbol) (x op : ℕ) (v sp : Span) (ty : Option ClassicalType) → found_of f ≡ get ss x → f ≡ FoundSymbol.None → Emitted t (diagnostic_of (error_of (Message.NotDeclared x) sp) ∷ []) s o r o' → Emitted t (target_by (get ss x) x (assign_op_of op) (spanned v) sp ty) s o r o'
+  pub target_none : (ss : Symbols) (f : Maybe SymbolValue) (x op : ℕ) (v sp : Span) (ty : Option ClassicalType) → found_of f ≡ get ss x → f ≡ None → Emitted t (diagnostic_of (error_of (Message.NotDeclared x) sp) ∷ []) s o r o' → Emitted t (target_by (get ss x) x (assign_op_of op) (spanned v) sp ty) s o r o'
   unfolding target_by
   target_none ss f x op v sp ty e n h = emitted_as h (rw (← e, n))
 
-  pub target_some : (ss : Symbols) (f : FoundSymbol) (sym : SymbolValue) (x op : ℕ) (v sp : Span) (ty : Option ClassicalType) → found_of f ≡ get ss x → f ≡ FoundSymbol.Some sym → Emitted t (target_says x (assign_op_of op) (spanned v) sp ty (kind_of sym.kind)) s o r o' → Emitted t (target_by (get ss x) x (assign_op_of op) (spanned v) sp ty) s o r o'
+  pub target_some : (ss : Symbols) (f : Maybe SymbolValue) (sym : SymbolValue) (x op : ℕ) (v sp : Span) (ty : Option ClassicalType) → found_of f ≡ get ss x → f ≡ Some sym → Emitted t (target_says x (assign_op_of op) (spanned v) sp ty (kind_of sym.kind)) s o r o' → Emitted t (target_by (get ss x) x (assign_op_of op) (spanned v) sp ty) s o r o'
   unfolding target_by
   target_some ss f sym x op v sp ty e n h = emitted_as h (rw (← e, n))
 

@@ -6,8 +6,7 @@ use Rattle.ast.specs.Tree.{TextNumber, Expr}
 use Rattle.ast.specs.declared.ClassicalType.{ClassicalType}
 use Rattle.ast.specs.declared.ClassicalQualifier.{ClassicalQualifier}
 use Rattle.ast.specs.declared.AssignOp.{AssignOp}
-use Rattle.types.specs.declared.Typed.{Typed}
-use Rattle.types.specs.declared.Typed.TheVariants.{«Type», None}
+use Rattle.std.specs.Prelude.{Option as Maybe, Some, None}
 use Rattle.sema.specs.Messages
 use Rattle.sema.specs.Messages.{Diagnostic, error, error_with_note}
 use Rattle.sema.specs.Symbols.{Symbol, Symbols, FunctionSig, Table}
@@ -63,10 +62,10 @@ target_by none x op value sp actual = error (Messages.not_declared x) sp ∷ []
 target_by (some sym) x op value sp actual = target_says x op value sp actual sym.kind
 
 -- the type of a target that takes a value
-abbrev pub target_type : SymbolKind → Typed
+abbrev pub target_type : SymbolKind → Maybe ClassicalType
 target_type SymbolKind.Qubit = None
 target_type SymbolKind.Bit = None
-target_type (SymbolKind.Classical ty) = «Type» ty
+target_type (SymbolKind.Classical ty) = Some ty
 target_type (SymbolKind.Const ty) = None
 target_type SymbolKind.GateParam = None
 target_type SymbolKind.GateQubit = None

@@ -26,7 +26,7 @@ ghost use Rattle.declarations.specs.Checked.{Checkable, Declared, init_at, Defin
 use accepted::numbers::{span_at, u16_at};
 use accepted::parts::skip_qualifier;
 use ast::ClassicalType;
-use context::{After, FoundFunction, FoundSymbol, Index, Sink, Symbol, Typing};
+use context::{After, Index, Sink, Symbol, Typing};
 use lines::Message;
 use parts::{Function, function_at, qualifier_at};
 use reports::{
@@ -214,7 +214,7 @@ fn check_target(
 {
     let sink = t.sink;
     let found = tables::get(scratch, depth, x);
-    let FoundSymbol::Some(symbol) = found else {
+    let Some(symbol) = found else {
         return report_error(tree, index, out, Message::NotDeclared(x), span, sink);
     };
     let kind = symbol.kind;
@@ -272,7 +272,7 @@ fn define(
     let ty = f.return_type;
     let span = f.span;
     let found = tables::function(scratch, x);
-    if let FoundFunction::Some(prev) = found {
+    if let Some(prev) = found {
         let first = prev.decl_span;
         return report_defined(tree, index, out, x, span, first, sink);
     }

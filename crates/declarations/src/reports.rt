@@ -16,10 +16,9 @@ ghost use Rattle.declarations.specs.Says.{declared_says, code_says, spanned, tar
 
 use accepted::numbers::span_at;
 use ast::ClassicalType;
-use context::{FoundSymbol, Index, Sink, SymbolKind, Typing};
+use context::{Index, Sink, SymbolKind, Typing};
 use lines::{Message, Note, error, error_with_note};
 use span::Span;
-use types::Typed;
 
 // An error, and an error with a note.
 pub fn report_error(
@@ -63,7 +62,7 @@ pub fn report_declared(
     tree: &[u8],
     index: &Index,
     out: &mut [u8],
-    found: FoundSymbol,
+    found: Option<Symbol>,
     x: usize,
     span: Span,
     sink: Sink,
@@ -71,7 +70,7 @@ pub fn report_declared(
     requires { TextsAt tree.now index.now × (x < length (texts_of tree.now)) × SinkFits sink }
     ensures { Emitted (texts_of tree.now) (declared_says (found_of found) x span) sink out.old result out.new }
 {
-    let FoundSymbol::Some(prev) = found else {
+    let Some(prev) = found else {
         return sink;
     };
     let at = prev.decl_span;
@@ -157,7 +156,7 @@ fn check_assign(
 {
     let found = t.typed;
     let sink = t.sink;
-    let Typed::Type(actual) = found else {
+    let Some(actual) = found else {
         return sink;
     };
     let s = check_type(
@@ -174,16 +173,16 @@ fn check_assign(
 }
 
 // The type of a target that takes a value.
-fn target_type(kind: SymbolKind) -> Typed
+fn target_type(kind: SymbolKind) -> Option<ClassicalType>
     ensures { result ≡ target_type kind }
 {
     match kind {
-        SymbolKind::Qubit => Typed::None,
-        SymbolKind::Bit => Typed::None,
-        SymbolKind::Classical(ty) => Typed::Type(ty),
-        SymbolKind::Const(_ty) => Typed::None,
-        SymbolKind::GateParam => Typed::None,
-        SymbolKind::GateQubit => Typed::None,
+        SymbolKind::Qubit => None,
+        SymbolKind::Bit => None,
+        SymbolKind::Classical(ty) => Some(ty),
+        SymbolKind::Const(_ty) => None,
+        SymbolKind::GateParam => None,
+        SymbolKind::GateQubit => None,
     }
 }
 
@@ -217,7 +216,7 @@ pub fn check_kind(
 {
     let found = target_type(kind);
     let sink = t.sink;
-    let Typed::Type(expected) = found else {
+    let Some(expected) = found else {
         return report_error(tree, index, out, not_assignable(kind, x), span, sink);
     };
     check_assign(tree, index, out, x, op, expected, t, span)
@@ -266,7 +265,7 @@ pub fn check_value(
 {
     let found = t.typed;
     let sink = t.sink;
-    let Typed::Type(actual) = found else {
+    let Some(actual) = found else {
         return sink;
     };
     check_type(
@@ -295,7 +294,7 @@ pub fn check_return(
 {
     let found = t.typed;
     let sink = t.sink;
-    let Typed::Type(actual) = found else {
+    let Some(actual) = found else {
         return sink;
     };
     check_type(

@@ -19,7 +19,7 @@ use Rattle.context.specs.declared.Sink.{Sink}
 use Rattle.lines.specs.declared.Severity.{Severity}
 use Rattle.lines.specs.declared.Message.{Message}
 use Rattle.lines.specs.declared.Note.{Note}
-use Rattle.lines.specs.declared.Secondary.{Secondary}
+use Rattle.std.specs.Prelude.{Option as Maybe, Some, None}
 use Rattle.lines.specs.declared.Diagnostic.{Diagnostic}
 use Rattle.lines.specs.declared.Plan.{Plan}
 use Rattle.lines.specs.Stored.{Wrote, Said}
@@ -62,7 +62,7 @@ readable x s h = record { inside = omega (arith, s.size, s.few); text_at = s.eac
 pub message-named : {tree index : List ℕ} (m : Message) {p : Plan} → p ≡ plan_of m → TextsAt tree index → Below (length (texts_of tree)) (name_in m) → Named tree index p
 message-named {tree} m e s h = rw e (λ u. readable (plan_of m).name s ((message-says (texts_of tree) m).named (length (texts_of tree)) h u))
 
-pub note_named : {tree index : List ℕ} (sec : Secondary) {m : Note} {sp : Span} {p : Plan} → sec ≡ Secondary.Some m sp → p ≡ note_plan m → TextsAt tree index → NoteBelow (length (texts_of tree)) sec → Named tree index p
+pub note_named : {tree index : List ℕ} (sec : Maybe (Note × Span)) {m : Note} {sp : Span} {p : Plan} → sec ≡ Some (m, sp) → p ≡ note_plan m → TextsAt tree index → NoteBelow (length (texts_of tree)) sec → Named tree index p
 note_named {tree} sec {m} e f s h =
     let k = rw e at h in
     rw f (λ u. readable (note_plan m).name s ((note_says (texts_of tree) m).named (length (texts_of tree)) k u))
@@ -75,12 +75,12 @@ module _ {o : List ℕ} {n : ℕ} {o' : List ℕ} {r : ℕ} where
   message-said t s sp m {c} {p} e f w =
       said_as w (line_text_lem t c (letter (severity_of s)) sp p (message_text t (message_of m)) (letter-text s ∙ ap (λ (x : ℕ). x ∷ []) (sym e)) (ap (plan_text t) f ∙ (message-says t m).says))
 
-  pub note_said : (t : List Text) (sec : Secondary) (sp : Span) (m : Note) {p : Plan} → sec ≡ Secondary.Some m sp → p ≡ note_plan m → Said o n o' r (line_text t note_byte sp p) 512 → Said o n o' r (ended (note_lines t (secondary_of sec))) 512
+  pub note_said : (t : List Text) (sec : Maybe (Note × Span)) (sp : Span) (m : Note) {p : Plan} → sec ≡ Some (m, sp) → p ≡ note_plan m → Said o n o' r (line_text t note_byte sp p) 512 → Said o n o' r (ended (note_lines t (secondary_of sec))) 512
   unfolding note_lines
   note_said t sec sp m {p} e f w =
       rw e (said_as w (line_text_lem t note_byte (text "N") sp p _ refl (ap (plan_text t) f ∙ (note_says t m).says)))
 
-pub note_none : (t : List Text) (sec : Secondary) {o : List ℕ} {n : ℕ} → sec ≡ Secondary.None → Said o n o n (ended (note_lines t (secondary_of sec))) 512
+pub note_none : (t : List Text) (sec : Maybe (Note × Span)) {o : List ℕ} {n : ℕ} → sec ≡ None → Said o n o n (ended (note_lines t (secondary_of sec))) 512
 unfolding note_lines ended
 note_none t sec {o} {n} e = rw e (record { wrote = record { holds = refl; after = sym (add-zero n) }; within = omega arith })
 

@@ -16,8 +16,7 @@ use Rattle.types.specs.Names.{name_of}
 use Rattle.sema.specs.Messages.{message_text, message_parts, note_text, note_parts, name_at, operand_text, subscript, expected_name, kind_name, context_name}
 use Rattle.sema.specs.Messages
 use Rattle.context.specs.Values.{number_of, ends_of, kind_of}
-use Rattle.context.specs.declared.Number.{Number}
-use Rattle.context.specs.declared.Ends.{Ends}
+use Rattle.std.specs.Prelude.{Option as Maybe, Some, None}
 use Rattle.context.specs.declared.SymbolKind.{SymbolKind}
 use Rattle.lines.specs.declared.Expected.{Expected}
 use Rattle.lines.specs.declared.Place.{Place}
@@ -65,17 +64,17 @@ pub record Says (t : List Text) (p : Plan) (xs : List ℕ) (x : Option ℕ) : Ty
   pub named : (n : ℕ) → Below n x → T (has_name (row_at p.kind)) → p.name < n
 
 module _ (t : List Text) where
-  used_says : (x : ℕ) (i : Number) (sl : Ends) → Says t (operand_by 9 x i sl) (concat (text "use of qubit `" ∷ concat (name_at t x ∷ subscript t (number_of i) (ends_of sl) ∷ []) ∷ text "` after measurement — qubit state has collapsed and cannot be used in a gate without an explicit `reset`" ∷ [])) (some x)
+  used_says : (x : ℕ) (i : Maybe ℕ) (sl : Maybe (ℕ × ℕ)) → Says t (operand_by 9 x i sl) (concat (text "use of qubit `" ∷ concat (name_at t x ∷ subscript t (number_of i) (ends_of sl) ∷ []) ∷ text "` after measurement — qubit state has collapsed and cannot be used in a gate without an explicit `reset`" ∷ [])) (some x)
   unfolding plan_text joined part_text piece_text phrase row_at has_name plans phrases subscript
-  used_says x (Number.Some i) sl = record { says = simp append_assoc; named = λ n h u. h }
-  used_says x Number.None (Ends.Some a b) = record { says = simp append_assoc; named = λ n h u. h }
-  used_says x Number.None Ends.None = record { says = simp append_assoc; named = λ n h u. h }
+  used_says x (Some i) sl = record { says = simp append_assoc; named = λ n h u. h }
+  used_says x None (Some (a, b)) = record { says = simp append_assoc; named = λ n h u. h }
+  used_says x None None = record { says = simp append_assoc; named = λ n h u. h }
 
-  measured-says : (x : ℕ) (i : Number) (sl : Ends) → Says t (operand_by 29 x i sl) (concat (text "qubit `" ∷ concat (name_at t x ∷ subscript t (number_of i) (ends_of sl) ∷ []) ∷ text "` has already been measured" ∷ [])) (some x)
+  measured-says : (x : ℕ) (i : Maybe ℕ) (sl : Maybe (ℕ × ℕ)) → Says t (operand_by 29 x i sl) (concat (text "qubit `" ∷ concat (name_at t x ∷ subscript t (number_of i) (ends_of sl) ∷ []) ∷ text "` has already been measured" ∷ [])) (some x)
   unfolding plan_text joined part_text piece_text phrase row_at has_name plans phrases subscript
-  measured-says x (Number.Some i) sl = record { says = simp append_assoc; named = λ n h u. h }
-  measured-says x Number.None (Ends.Some a b) = record { says = simp append_assoc; named = λ n h u. h }
-  measured-says x Number.None Ends.None = record { says = simp append_assoc; named = λ n h u. h }
+  measured-says x (Some i) sl = record { says = simp append_assoc; named = λ n h u. h }
+  measured-says x None (Some (a, b)) = record { says = simp append_assoc; named = λ n h u. h }
+  measured-says x None None = record { says = simp append_assoc; named = λ n h u. h }
 
   place-says : (c : Place) (e a : ClassicalType) → Says t (plan_of (Message.MustHaveType c e a)) (message_text t (message_of (Message.MustHaveType c e a))) none
   unfolding plan_text joined part_text piece_text phrase row_at has_name plans phrases message_parts context_name

@@ -2,8 +2,7 @@
 use Rattle.std.specs.Prelude.{ℕ, ◌+◌, ◌/◌, ◌%◌, cond, ltb}
 use Rattle.ast.specs.declared.ClassicalType.{ClassicalType}
 use Rattle.types.specs.Types.{number_of}
-use Rattle.context.specs.declared.Number.{Number}
-use Rattle.context.specs.declared.Ends.{Ends}
+use Rattle.std.specs.Prelude.{Option as Maybe, Some, None}
 use Rattle.context.specs.declared.GateOperand.{GateOperand}
 use Rattle.context.specs.declared.SymbolKind.{SymbolKind}
 use Rattle.lines.specs.declared.Severity.{Severity}
@@ -55,10 +54,10 @@ abbrev pub plain : ℕ → Plan
 plain kind = named kind 0
 
 -- an operand by its index, else by its slice: one of three plans
-abbrev pub operand_by : ℕ → ℕ → Number → Ends → Plan
-operand_by kind x (Number.Some i) sl = numbered (kind + 1) x i 0 0
-operand_by kind x Number.None (Ends.Some a b) = numbered (kind + 2) x a b 0
-operand_by kind x Number.None Ends.None = named kind x
+abbrev pub operand_by : ℕ → ℕ → Maybe ℕ → Maybe (ℕ × ℕ) → Plan
+operand_by kind x (Some i) sl = numbered (kind + 1) x i 0 0
+operand_by kind x None (Some (a, b)) = numbered (kind + 2) x a b 0
+operand_by kind x None None = named kind x
 
 unfoldable pub operand_plan : ℕ → GateOperand → Plan
 operand_plan kind op = operand_by kind op.name op.index op.slice

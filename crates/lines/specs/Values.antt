@@ -12,7 +12,7 @@ use Rattle.lines.specs.declared.Expected.{Expected}
 use Rattle.lines.specs.declared.Place.{Place}
 use Rattle.lines.specs.declared.Message.{Message}
 use Rattle.lines.specs.declared.Note.{Note}
-use Rattle.lines.specs.declared.Secondary.{Secondary}
+use Rattle.std.specs.Prelude.{Option as Maybe, Some, None}
 use Rattle.lines.specs.declared.Diagnostic.{Diagnostic}
 
 abbrev pub severity_of : Severity → Messages.Severity
@@ -84,22 +84,22 @@ note_of Note.FirstDefined = Messages.first_defined
 note_of Note.TargetDeclared = Messages.target_declared
 note_of Note.FunctionDefined = Messages.function_defined
 
-abbrev pub secondary_of : Secondary → Option (Messages.Note × Span)
-secondary_of (Secondary.Some n sp) = some (note_of n, sp)
-secondary_of Secondary.None = none
+abbrev pub secondary_of : Maybe (Note × Span) → Option (Messages.Note × Span)
+secondary_of (Some (n, sp)) = some (note_of n, sp)
+secondary_of None = none
 
 abbrev pub diagnostic_of : Diagnostic → Messages.Diagnostic
 diagnostic_of d =
     record { severity = severity_of d.severity; message = message_of d.message; span = d.span; secondary = secondary_of d.secondary }
 
 abbrev pub error_of : Message → Span → Diagnostic
-error_of m sp = record { severity = Severity.Error; message = m; span = sp; secondary = Secondary.None }
+error_of m sp = record { severity = Severity.Error; message = m; span = sp; secondary = None }
 
 abbrev pub error_with_note_of : Message → Span → Note → Span → Diagnostic
-error_with_note_of m sp n at = record { severity = Severity.Error; message = m; span = sp; secondary = Secondary.Some n at }
+error_with_note_of m sp n at = record { severity = Severity.Error; message = m; span = sp; secondary = Some (n, at) }
 
 abbrev pub warning_of : Message → Span → Diagnostic
-warning_of m sp = record { severity = Severity.Warning; message = m; span = sp; secondary = Secondary.None }
+warning_of m sp = record { severity = Severity.Warning; message = m; span = sp; secondary = None }
 
 -- the text number in a message
 abbrev pub name_in : Message → Option ℕ
@@ -161,9 +161,9 @@ abbrev pub Below : ℕ → Option ℕ → Type 0
 Below n none = Unit {0}
 Below n (some x) = x < n
 
-abbrev pub NoteBelow : ℕ → Secondary → Type 0
-NoteBelow n (Secondary.Some m sp) = Below n (name_in_note m)
-NoteBelow n Secondary.None = Unit {0}
+abbrev pub NoteBelow : ℕ → Maybe (Note × Span) → Type 0
+NoteBelow n (Some (m, sp)) = Below n (name_in_note m)
+NoteBelow n None = Unit {0}
 
 -- what a caller shows of a diagnostic over so many texts
 pub record Fits (n : ℕ) (d : Diagnostic) : Type 0 where

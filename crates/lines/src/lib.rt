@@ -116,7 +116,7 @@ pub struct Diagnostic {
     pub severity: Severity,
     pub message: Message,
     pub span: Span,
-    pub secondary: Secondary,
+    pub secondary: Option<(Note, Span)>,
 }
 
 pub fn error(message: Message, span: Span) -> Diagnostic
@@ -126,7 +126,7 @@ pub fn error(message: Message, span: Span) -> Diagnostic
         severity: Severity::Error,
         message,
         span,
-        secondary: Secondary::None,
+        secondary: None,
     }
 }
 
@@ -137,7 +137,7 @@ pub fn error_with_note(message: Message, span: Span, note: Note, at: Span) -> Di
         severity: Severity::Error,
         message,
         span,
-        secondary: Secondary::Some(note, at),
+        secondary: Some((note, at)),
     }
 }
 
@@ -148,7 +148,7 @@ pub fn warning(message: Message, span: Span) -> Diagnostic
         severity: Severity::Warning,
         message,
         span,
-        secondary: Secondary::None,
+        secondary: None,
     }
 }
 
@@ -193,12 +193,12 @@ fn note_line<'a>(
     index: &Index,
     wording: &'a [u8],
     places: &[u16; 97],
-    secondary: Secondary,
+    secondary: Option<(Note, Span)>,
 ) -> usize
     requires { (n < 1048576) × Lent wording.now places.now × TextsAt tree.now index.now × NoteBelow (length (texts_of tree.now)) secondary }
     ensures { Said out.old n out.new result (ended (note_lines (texts_of tree.now) (secondary_of secondary))) 512 }
 {
-    let Secondary::Some(note, span) = secondary else {
+    let Some((note, span)) = secondary else {
         return n;
     };
     line(

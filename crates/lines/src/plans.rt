@@ -5,7 +5,7 @@ ghost use Rattle.lines.specs.Kinds.{kind_word, expected_word, letter_byte, place
 
 use super::{Expected, Message, Note, Place, Plan, Severity};
 use ast::ClassicalType;
-use context::{Ends, GateOperand, Number, SymbolKind};
+use context::{GateOperand, SymbolKind};
 
 fn numbered(kind: usize, name: usize, first: u64, second: u64, third: u64) -> Plan
     ensures { result ≡ numbered kind name first second third }
@@ -122,10 +122,10 @@ fn operand_plan(kind: usize, op: GateOperand) -> Plan
     let name = op.name;
     let index = op.index;
     let slice = op.slice;
-    if let Number::Some(i) = index {
+    if let Some(i) = index {
         return numbered(kind + 1, name, i, 0, 0);
     }
-    if let Ends::Some(a, b) = slice {
+    if let Some((a, b)) = slice {
         return numbered(kind + 2, name, a, b, 0);
     }
     named(kind, name)

@@ -11,7 +11,7 @@ use Rattle.sema.specs.Symbols.{Symbols, get}
 use Rattle.sema.specs.Operands.{fits, is_gate_qubit, is_some, index_says, slice_says, bounds_say, check_operand}
 use Rattle.context.specs.declared.GateOperand.{GateOperand as Operand}
 use Rattle.context.specs.declared.Symbol.{Symbol as SymbolValue}
-use Rattle.context.specs.declared.FoundSymbol.{FoundSymbol}
+use Rattle.std.specs.Prelude.{Option as Maybe, Some, None}
 use Rattle.context.specs.declared.Sink.{Sink}
 use Rattle.context.specs.Sink.{SinkFits}
 use Rattle.context.specs.Values.{number_of, ends_of, operand_of, kind_of, symbol_of, found_of}
@@ -85,12 +85,12 @@ module _ {t : List Text} {s : Sink} {o : List ℕ} where
     bounds_both b f e i j = rw (← f, e) (emitted_then i j)
 
   -- the whole check: a name that is not declared, and one that is
-  module _ (ss : Symbols) (op : Operand) (expected : Expected) (found : FoundSymbol) (e : found_of found ≡ get ss op.name) where
-    pub check-missing : {d : Diagnostic} {r : Sink} {o' : List ℕ} → found ≡ FoundSymbol.None
+  module _ (ss : Symbols) (op : Operand) (expected : Expected) (found : Maybe SymbolValue) (e : found_of found ≡ get ss op.name) where
+    pub check-missing : {d : Diagnostic} {r : Sink} {o' : List ℕ} → found ≡ None
         → d ≡ error_of (Message.NotDeclared op.name) op.span → Reported t d s o r o' → Emitted t (check_operand ss (operand_of op) (expected_of expected)) s o r o'
     check-missing f g p = emitted_as (emitted_report g p) (sym (check-none ss (operand_of op) (expected_of expected) (sym e ∙ rw f)))
 
-    pub check-found : {v : SymbolValue} → found ≡ FoundSymbol.Some v
+    pub check-found : {v : SymbolValue} → found ≡ Some v
         → {r : Sink} {o' : List ℕ} → Emitted t (kind_says (operand_of op) (symbol_of v) (expected_of expected)) s o r o'
         → {q : Sink} {o'' : List ℕ} → BoundsSaid t op v r o' q o'' → Emitted t (check_operand ss (operand_of op) (expected_of expected)) s o q o''
     check-found f a b = emitted_as (emitted_then a b) (sym (check-some ss (operand_of op) (expected_of expected) (sym e ∙ rw f)))

@@ -14,7 +14,7 @@ use Rattle.tree.specs.Stmts.{operand, measure}
 use Rattle.tree.specs.Decode.{texts_of}
 use Rattle.sema.specs.Marks.{Key, key, smallest_covered}
 use Rattle.sema.specs.Operands.{used_says, used_index_says, use_by, check_use_after_measure}
-use Rattle.context.specs.declared.Ends.{Ends}
+use Rattle.std.specs.Prelude.{Option as Maybe, Some, None}
 use Rattle.context.specs.declared.GateOperand.{GateOperand as Operand}
 use Rattle.context.specs.declared.Sink.{Sink}
 use Rattle.context.specs.Sink.{SinkFits}
@@ -24,7 +24,6 @@ use Rattle.lines.specs.declared.Message.{Message}
 use Rattle.lines.specs.declared.Note.{Note}
 use Rattle.lines.specs.declared.Diagnostic.{Diagnostic}
 use Rattle.lines.specs.Values.{error_with_note_of, Reported}
-use Rattle.sheet.specs.declared.Covered.{Covered}
 use Rattle.sheet.specs.Sheet.{lookup_in, least_in, by_whole, smallest_in, covered_of, Distinct}
 use Rattle.sheet.specs.Places.{by_test, first_pos, lookup-marks}
 use Rattle.sheet.specs.Smallest.{IsLeast, least_is, smallest-marks}
@@ -74,14 +73,14 @@ unfolding mark_by
 mark-none tree p e = rw e
 
 -- the place of a covered index is not 0
-abbrev HasPlace : Covered → Type 0
-HasPlace Covered.None = Unit {0}
-HasPlace (Covered.At i p) = 0 < p
+abbrev HasPlace : Maybe (ℕ × ℕ) → Type 0
+HasPlace None = Unit {0}
+HasPlace (Some (i, p)) = 0 < p
 
-least-place : (own : ℕ → ℕ) (a b : ℕ) (c : Covered) → IsLeast own a b c → HasPlace c
+least-place : (own : ℕ → ℕ) (a b : ℕ) (c : Maybe (ℕ × ℕ)) → IsLeast own a b c → HasPlace c
 unfolding IsLeast
-least-place own a b Covered.None h = tt
-least-place own a b (Covered.At i p) h = h.2
+least-place own a b None h = tt
+least-place own a b (Some (i, p)) h = h.2
 
 module _ (ks : List Key) (sheet : List ℕ) (x a b : ℕ) where
   whole-place : (w : ℕ) → place_in ks sheet (key x none) ≡ w → Distinct ks
@@ -102,15 +101,15 @@ module _ (tree : List ℕ) (ks : List Key) (sheet : List ℕ) (x : ℕ) (placed 
   pub looked_up : (i : Option ℕ) (p : ℕ) → p ≡ lookup_in ks sheet x i → (p ≡ 0 → ⊥) → IsOk (measure (texts_of tree) p tree (p + 1))
   looked_up i p e z = place_read tree p z (rw e (lookup-placed tree ks sheet x placed i))
 
-  pub covered : (a b i p : ℕ) (c : Covered) → Distinct ks → c ≡ smallest_in ks sheet x (a, b) → c ≡ Covered.At i p → IsOk (measure (texts_of tree) p tree (p + 1))
+  pub covered : (a b i p : ℕ) (c : Maybe (ℕ × ℕ)) → Distinct ks → c ≡ smallest_in ks sheet x (a, b) → c ≡ Some (i, p) → IsOk (measure (texts_of tree) p tree (p + 1))
   covered a b i p c d e f =
-      let g : Covered.At i p ≡ smallest_in ks sheet x (a, b) = sym f ∙ e in
+      let g : Some (i, p) ≡ smallest_in ks sheet x (a, b) = sym f ∙ e in
       let l : 0 < p = rw (← g) at (smallest-place ks sheet x a b d) in
       place_read tree p (λ z. omega arith) (smallest-placed tree ks sheet x placed (a, b) i p g)
 
 -- what is looked up by places is what the marks say
 module _ (tree : List ℕ) (ks : List Key) (sheet : List ℕ) where
-  covered_is : (x a b : ℕ) (c : Covered) → Distinct ks → c ≡ smallest_in ks sheet x (a, b) → smallest_covered (marks_of tree ks sheet) x (a, b) ≡ covered_of tree c
+  covered_is : (x a b : ℕ) (c : Maybe (ℕ × ℕ)) → Distinct ks → c ≡ smallest_in ks sheet x (a, b) → smallest_covered (marks_of tree ks sheet) x (a, b) ≡ covered_of tree c
   covered_is x a b c d e = sym (ap (covered_of tree) e ∙ smallest-marks tree ks sheet x a b d)
 
   -- without a slice
@@ -123,25 +122,25 @@ module _ (tree : List ℕ) (ks : List Key) (sheet : List ℕ) where
 
 -- what is said
 module _ {t : List Text} {s : Sink} {o : List ℕ} (tree : List ℕ) (ks : List Key) (sheet : List ℕ) (sp : Span) where
-  module _ (x a b : ℕ) (c : Covered) (d : Distinct ks) (e : c ≡ smallest_in ks sheet x (a, b)) where
-    pub slice_unused : SinkFits s → c ≡ Covered.None → Emitted t (used_index_says x sp (smallest_covered (marks_of tree ks sheet) x (a, b))) s o s o
+  module _ (x a b : ℕ) (c : Maybe (ℕ × ℕ)) (d : Distinct ks) (e : c ≡ smallest_in ks sheet x (a, b)) where
+    pub slice_unused : SinkFits s → c ≡ None → Emitted t (used_index_says x sp (smallest_covered (marks_of tree ks sheet) x (a, b))) s o s o
     unfolding used_index_says
     slice_unused h f = rw (covered_is tree ks sheet x a b c d e, f) (emitted-none h)
 
-    pub slice-used : {i p : ℕ} (at : Span) → c ≡ Covered.At i p → at ≡ measure_span tree p
+    pub slice-used : {i p : ℕ} (at : Span) → c ≡ Some (i, p) → at ≡ measure_span tree p
         → {v : Diagnostic} {r : Sink} {o' : List ℕ} → v ≡ error_with_note_of (Message.UsedIndex x i) sp Note.MeasuredHere at → Reported t v s o r o'
         → Emitted t (used_index_says x sp (smallest_covered (marks_of tree ks sheet) x (a, b))) s o r o'
     unfolding used_index_says
     slice-used at f g j p = rw (covered_is tree ks sheet x a b c d e, f, ← g) (emitted_report j p)
 
   module _ (op : Operand) where
-    pub use_slice : {a b : ℕ} {r : Sink} {o' : List ℕ} → op.slice ≡ Ends.Some a b
+    pub use_slice : {a b : ℕ} {r : Sink} {o' : List ℕ} → op.slice ≡ Some (a, b)
         → Emitted t (used_index_says op.name sp (smallest_covered (marks_of tree ks sheet) op.name (a, b))) s o r o'
         → Emitted t (check_use_after_measure (marks_of tree ks sheet) (operand_of op) sp) s o r o'
     unfolding use_by
     use_slice e p = rw e p
 
-    module _ (f : op.slice ≡ Ends.None) (q : ℕ) (e : q ≡ lookup_in ks sheet op.name (number_of op.index)) where
+    module _ (f : op.slice ≡ None) (q : ℕ) (e : q ≡ lookup_in ks sheet op.name (number_of op.index)) where
       pub use_none : SinkFits s → q ≡ 0 → Emitted t (check_use_after_measure (marks_of tree ks sheet) (operand_of op) sp) s o s o
       unfolding used_says
       use_none h z = emitted_as (emitted-none h) (use_by_lem tree ks sheet op sp (ap ends_of f) q e none (mark-none tree q z))

@@ -17,7 +17,7 @@ use Rattle.sema.specs.Symbols.{Symbols}
 use Rattle.sema.specs.Marks.{Marks}
 use Rattle.sema.specs.Operands.{unless, check_operand, operand_width, check_use_after_measure, use_operands}
 use Rattle.sema.specs.Stmts.{wide, register_widths, all_equal, widths_say}
-use Rattle.context.specs.declared.Number.{Number}
+use Rattle.std.specs.Prelude.{Option as Maybe, Some, None}
 use Rattle.context.specs.declared.GateOperand.{GateOperand as Operand}
 use Rattle.context.specs.declared.Sink.{Sink}
 use Rattle.context.specs.Sink.{SinkFits}
@@ -138,7 +138,7 @@ module _ (t : List Text) (tree : List ℕ) (ss : Symbols) (at : ℕ) where
       all = g _ ∙ ap (λ ops. agree met (register_widths ss ops)) (sym (left_is t tree at n k u.remains l op next e)) ∙ u.all;
     }
 
-    pub meeting-more : 0 < n → (op : Operand) (next : ℕ) → operand t tree k ≡ ok (operand_of op) next → (width : Number) → number_of width ≡ operand_width ss (operand_of op)
+    pub meeting-more : 0 < n → (op : Operand) (next : ℕ) → operand t tree k ≡ ok (operand_of op) next → (width : Maybe ℕ) → number_of width ≡ operand_width ss (operand_of op)
         → (r : Widths) → ((ws : List ℕ) → agree r ws ≡ agree met (wide (number_of width) ws)) → Meeting t tree ss at (n - 1) next r
     meeting-more l op next e width f r g = meeting-step l (operand_of op) next e r (λ ws. rw (← f) (g ws))
 

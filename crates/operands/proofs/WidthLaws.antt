@@ -11,11 +11,9 @@ use Rattle.ast.specs.Tree.{Text, GateOperand}
 use Rattle.sema.specs.Symbols.{Symbols, Symbol, get}
 use Rattle.sema.specs.Operands.{slice_width, width_by, operand_width}
 use Rattle.sema.specs.Stmts.{wide, all_equal}
-use Rattle.context.specs.declared.Number.{Number}
-use Rattle.context.specs.declared.Ends.{Ends}
+use Rattle.std.specs.Prelude.{Option as Maybe, Some, None}
 use Rattle.context.specs.declared.GateOperand.{GateOperand as Operand}
 use Rattle.context.specs.declared.Symbol.{Symbol as SymbolValue}
-use Rattle.context.specs.declared.FoundSymbol.{FoundSymbol}
 use Rattle.context.specs.declared.Sink.{Sink}
 use Rattle.context.specs.Sink.{SinkFits}
 use Rattle.context.specs.Values.{number_of, ends_of, operand_of, found_of}
@@ -42,33 +40,33 @@ module _ (a b : ℕ) where
   slice-some l e h = rw (le-leb a b l, add-one, lt-ltb (suc (b - a)) 18446744073709551616 (omega arith))
 
 -- the width of an operand that is declared, by its slice, its index, its size
-module _ (size index : Number) (slice : Ends) where
-  pub width_slice : {a b : ℕ} (r : Number) → slice ≡ Ends.Some a b → number_of r ≡ slice_width (a, b) → number_of r ≡ width_by (number_of size) (ends_of slice) (number_of index)
+module _ (size index : Maybe ℕ) (slice : Maybe (ℕ × ℕ)) where
+  pub width_slice : {a b : ℕ} (r : Maybe ℕ) → slice ≡ Some (a, b) → number_of r ≡ slice_width (a, b) → number_of r ≡ width_by (number_of size) (ends_of slice) (number_of index)
   unfolding width_by
   width_slice r e f = rw e f
 
-  module _ (e : slice ≡ Ends.None) where
-    pub width_index : {i : ℕ} → index ≡ Number.Some i → some 1 ≡ width_by (number_of size) (ends_of slice) (number_of index)
+  module _ (e : slice ≡ None) where
+    pub width_index : {i : ℕ} → index ≡ Some i → some 1 ≡ width_by (number_of size) (ends_of slice) (number_of index)
     unfolding width_by
     width_index f = rw (e, f)
 
-    pub width_scalar : index ≡ Number.None → size ≡ Number.None → some 1 ≡ width_by (number_of size) (ends_of slice) (number_of index)
+    pub width_scalar : index ≡ None → size ≡ None → some 1 ≡ width_by (number_of size) (ends_of slice) (number_of index)
     unfolding width_by
     width_scalar f g = rw (e, f, g)
 
-    pub width_size : {n : ℕ} → index ≡ Number.None → size ≡ Number.Some n → some n ≡ width_by (number_of size) (ends_of slice) (number_of index)
+    pub width_size : {n : ℕ} → index ≡ None → size ≡ Some n → some n ≡ width_by (number_of size) (ends_of slice) (number_of index)
     unfolding width_by
     width_size f g = rw (e, f, g)
 
 pub ruleset width_said = (width_slice, width_index, width_scalar, width_size)
 
 -- ".. and an undeclared name have no width."
-module _ (ss : Symbols) (op : Operand) (found : FoundSymbol) (e : found_of found ≡ get ss op.name) where
-  pub width_missing : found ≡ FoundSymbol.None → none ≡ operand_width ss (operand_of op)
+module _ (ss : Symbols) (op : Operand) (found : Maybe SymbolValue) (e : found_of found ≡ get ss op.name) where
+  pub width_missing : found ≡ None → none ≡ operand_width ss (operand_of op)
   unfolding operand_width
   width_missing f = rw (← e, f, operand_width)
 
-  pub width_found : {v : SymbolValue} (r : Number) → found ≡ FoundSymbol.Some v
+  pub width_found : {v : SymbolValue} (r : Maybe ℕ) → found ≡ Some v
       → number_of r ≡ width_by (number_of v.size) (ends_of op.slice) (number_of op.index) → number_of r ≡ operand_width ss (operand_of op)
   unfolding operand_width
   width_found r f g = rw (← e, f, operand_width) g
@@ -102,12 +100,12 @@ module _ (met : Widths) (w : ℕ) (ws : List ℕ) where
 
 pub ruleset meeting = (meet_first, meet_same, meet_other, meet_differ)
 
-module _ (met : Widths) (width : Number) (ws : List ℕ) where
-  pub meet_none : width ≡ Number.None → agree met ws ≡ agree met (wide (number_of width) ws)
+module _ (met : Widths) (width : Maybe ℕ) (ws : List ℕ) where
+  pub meet_none : width ≡ None → agree met ws ≡ agree met (wide (number_of width) ws)
   unfolding wide
   meet_none e = rw e
 
-  module _ {w : ℕ} (e : width ≡ Number.Some w) where
+  module _ {w : ℕ} (e : width ≡ Some w) where
     pub meet_one : w ≤ 1 → agree met ws ≡ agree met (wide (number_of width) ws)
     unfolding wide
     meet_one l = rw (e, le-ltb 1 w l)
@@ -117,17 +115,17 @@ module _ (met : Widths) (width : Number) (ws : List ℕ) where
     meet_more r l f = rw (e, lt-ltb 1 w l) (f ws)
 
 -- the widths of a measurement
-module _ {t : List Text} {s : Sink} {o : List ℕ} (ss : Symbols) (qubit target : Operand) (sp : Span) {a : Number} (e : number_of a ≡ operand_width ss (operand_of qubit)) where
-  pub source_none : SinkFits s → a ≡ Number.None → Emitted t (measure_widths ss (operand_of qubit) sp (operand_of target)) s o s o
+module _ {t : List Text} {s : Sink} {o : List ℕ} (ss : Symbols) (qubit target : Operand) (sp : Span) {a : Maybe ℕ} (e : number_of a ≡ operand_width ss (operand_of qubit)) where
+  pub source_none : SinkFits s → a ≡ None → Emitted t (measure_widths ss (operand_of qubit) sp (operand_of target)) s o s o
   unfolding widths_by
   source_none h f = rw (← e, f) (emitted-none h)
 
-  module _ {b : Number} (g : number_of b ≡ operand_width ss (operand_of target)) {m : ℕ} (f : a ≡ Number.Some m) where
-    pub target_none : SinkFits s → b ≡ Number.None → Emitted t (measure_widths ss (operand_of qubit) sp (operand_of target)) s o s o
+  module _ {b : Maybe ℕ} (g : number_of b ≡ operand_width ss (operand_of target)) {m : ℕ} (f : a ≡ Some m) where
+    pub target_none : SinkFits s → b ≡ None → Emitted t (measure_widths ss (operand_of qubit) sp (operand_of target)) s o s o
     unfolding widths_by
     target_none h j = rw (← e, ← g, f, j) (emitted-none h)
 
-    module _ {n : ℕ} (j : b ≡ Number.Some n) where
+    module _ {n : ℕ} (j : b ≡ Some n) where
       pub widths_same : SinkFits s → m ≡ n → Emitted t (measure_widths ss (operand_of qubit) sp (operand_of target)) s o s o
       unfolding widths_by
       widths_same h k = rw (← e, ← g, f, j, eq-eqb m n k) (emitted-none h)

@@ -10,7 +10,7 @@ ghost use Rattle.promises.specs.Emitted.{Emitted};
 ghost use Rattle.operands.specs.Says.{kind_says, index_fault_says, slice_fault_says, nothing};
 
 use crate::kinds::{fits, indexes_wire, within};
-use context::{Ends, GateOperand, Index, Number, Sink, Symbol};
+use context::{GateOperand, Index, Sink, Symbol};
 use lines::{Expected, Message, Note, error, error_with_note};
 
 // An error of an operand, with a note where its symbol is declared.
@@ -79,11 +79,11 @@ fn index_fault(op: GateOperand, symbol: Symbol) -> IndexFault
     ensures { index_fault_says (operand_of op) (symbol_of symbol) result ≡ index_says (operand_of op) (symbol_of symbol) (number_of op.index) (number_of symbol.size) }
 {
     let at = op.index;
-    let Number::Some(i) = at else {
+    let Some(i) = at else {
         return IndexFault::None;
     };
     let size = symbol.size;
-    let Number::Some(n) = size else {
+    let Some(n) = size else {
         return IndexFault::WithoutSize;
     };
     if i < n {
@@ -96,11 +96,11 @@ fn slice_fault(op: GateOperand, symbol: Symbol) -> SliceFault
     ensures { slice_fault_says (operand_of op) (symbol_of symbol) result ≡ slice_says (operand_of op) (symbol_of symbol) (ends_of op.slice) (number_of symbol.size) }
 {
     let slice = op.slice;
-    let Ends::Some(a, b) = slice else {
+    let Some((a, b)) = slice else {
         return SliceFault::None;
     };
     let size = symbol.size;
-    let Number::Some(n) = size else {
+    let Some(n) = size else {
         return SliceFault::WithoutSize;
     };
     if within(a, b, n) {

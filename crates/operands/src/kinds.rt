@@ -5,19 +5,19 @@ ghost use Rattle.sema.specs.Operands as sema;
 ghost use Rattle.context.specs.Values.{number_of, ends_of, kind_of};
 ghost use Rattle.lines.specs.Values.{expected_of};
 
-use context::{Ends, GateOperand, Number, SymbolKind};
+use context::{GateOperand, SymbolKind};
 use lines::Expected;
 
-pub fn has_number(n: Number) -> bool
+pub fn has_number(n: Option<u64>) -> bool
     ensures { result ≡ sema.is_some (number_of n) }
 {
-    if let Number::Some(_) = n { true } else { false }
+    if let Some(_) = n { true } else { false }
 }
 
-fn has_ends(e: Ends) -> bool
+fn has_ends(e: Option<(u64, u64)>) -> bool
     ensures { result ≡ sema.is_some (ends_of e) }
 {
-    if let Ends::Some(_, _) = e {
+    if let Some(_) = e {
         true
     } else {
         false

@@ -26,7 +26,7 @@ ghost use Rattle.operands.specs.Widths.{measure_widths, uniform, agree};
 
 use accepted::operands::operand_at;
 use accepted::singles::{is_single, single_at};
-use context::{Ends, FoundSymbol, GateOperand, Index, Number, Sink};
+use context::{GateOperand, Index, Sink};
 use lines::{Expected, Message, Note, error, error_with_note};
 use span::Span;
 use text::wide;
@@ -47,7 +47,7 @@ pub fn check_operand(
 {
     let scratch = &scratch[..];
     let tree = &tree[..];
-    let FoundSymbol::Some(symbol) = tables::get(scratch, depth, op.name) else {
+    let Some(symbol) = tables::get(scratch, depth, op.name) else {
         return lines::report(
             out,
             sink,
@@ -60,12 +60,12 @@ pub fn check_operand(
     bounds::check_bounds(tree, index, out, op, symbol, s)
 }
 
-fn operand_width(scratch: &[u8], depth: usize, op: GateOperand) -> Number
+fn operand_width(scratch: &[u8], depth: usize, op: GateOperand) -> Option<u64>
     requires { (65536 ≤ length scratch.now) × (depth ≤ 9) × (op.name < 256) }
     ensures { number_of result ≡ operand_width (scopes_of scratch.now depth) (operand_of op) }
 {
-    let FoundSymbol::Some(symbol) = tables::get(scratch, depth, op.name) else {
-        return Number::None;
+    let Some(symbol) = tables::get(scratch, depth, op.name) else {
+        return None;
     };
     let size = symbol.size;
     let slice = op.slice;
@@ -88,10 +88,10 @@ pub fn check_measure_widths(
     requires { TextsAt tree.now index.now × (65536 ≤ length scratch.now) × (depth ≤ 9) × (qubit.name < length (texts_of tree.now)) × (target.name < length (texts_of tree.now)) × SinkFits sink }
     ensures { Emitted (texts_of tree.now) (measure_widths (scopes_of scratch.now depth) (operand_of qubit) span (operand_of target)) sink out.old result out.new }
 {
-    let Number::Some(a) = operand_width(scratch, depth, qubit) else {
+    let Some(a) = operand_width(scratch, depth, qubit) else {
         return sink;
     };
-    let Number::Some(b) = operand_width(scratch, depth, target) else {
+    let Some(b) = operand_width(scratch, depth, target) else {
         return sink;
     };
     if a == b {
@@ -125,7 +125,7 @@ fn check_use_after_measure(
     ensures { Emitted (texts_of tree.now) (check_use_after_measure (marks_of tree.now (keys_in index.now keys) marks.now) (operand_of op) span) sink out.old result out.new }
 {
     let slice = op.slice;
-    if let Ends::Some(a, b) = slice {
+    if let Some((a, b)) = slice {
         return uses::check_slice_use(tree, index, out, keys, marks, op.name, a, b, span, sink);
     }
     let i = op.index;
@@ -148,7 +148,7 @@ fn is_quiet(scratch: &[u8], depth: usize, op: GateOperand, expected: Expected) -
     requires { (65536 ≤ length scratch.now) × (depth ≤ 9) × (op.name < 256) }
     ensures { result ≡ nothing (check_operand (scopes_of scratch.now depth) (operand_of op) (expected_of expected)) }
 {
-    let FoundSymbol::Some(symbol) = tables::get(scratch, depth, op.name) else {
+    let Some(symbol) = tables::get(scratch, depth, op.name) else {
         return false;
     };
     let kind = symbol.kind;

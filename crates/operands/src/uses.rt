@@ -14,7 +14,6 @@ use accepted::numbers::span_at;
 use accepted::parts::{skip_operand, skip_option_operand};
 use context::{Index, Sink};
 use lines::{Message, Note, error_with_note};
-use sheet::Covered;
 use span::Span;
 
 // The span of the measure statement whose case byte stands at a place.
@@ -43,7 +42,7 @@ pub fn check_slice_use(
     requires { TextsAt tree.now index.now × Indexed index.now keys × Distinct (keys_in index.now keys) × Placed tree.now marks.now × (x < length (texts_of tree.now)) × SinkFits sink }
     ensures { Emitted (texts_of tree.now) (used_index_says x span (smallest_covered (marks_of tree.now (keys_in index.now keys) marks.now) x (a, b))) sink out.old result out.new }
 {
-    let Covered::At(i, place) = sheet::smallest(marks, index, keys, x, a, b) else {
+    let Some((i, place)) = sheet::smallest(marks, index, keys, x, a, b) else {
         return sink;
     };
     let at = measure_span(tree, place as usize);

@@ -5,7 +5,7 @@ ghost use Rattle.sema.specs.Stmts.{wide};
 ghost use Rattle.context.specs.Values.{number_of, ends_of};
 ghost use Rattle.operands.specs.Widths.{agree};
 
-use context::{Ends, Number};
+use context::{Ends};
 
 // The widths above 1 that were met: none, all equal to one, or two that differ.
 #[derive(Clone, Copy)]
@@ -16,31 +16,31 @@ pub enum Widths {
 }
 
 // Start > end, and a width beyond 2^64 - 1, have no width.
-fn slice_width(a: u64, b: u64) -> Number
+fn slice_width(a: u64, b: u64) -> Option<u64>
     ensures { number_of result ≡ slice_width (a, b) }
 {
     if b < a {
-        return Number::None;
+        return None;
     }
     if b - a == 18446744073709551615 {
-        return Number::None;
+        return None;
     }
-    Number::Some(b - a + 1)
+    Some(b - a + 1)
 }
 
-pub fn width_by(size: Number, slice: Ends, index: Number) -> Number
+pub fn width_by(size: Option<u64>, slice: Option<(u64, u64)>, index: Option<u64>) -> Option<u64>
     ensures { number_of result ≡ width_by (number_of size) (ends_of slice) (number_of index) }
 {
-    if let Ends::Some(a, b) = slice {
+    if let Some((a, b)) = slice {
         return slice_width(a, b);
     }
-    if let Number::Some(_) = index {
-        return Number::Some(1);
+    if let Some(_) = index {
+        return Some(1);
     }
-    let Number::Some(n) = size else {
-        return Number::Some(1);
+    let Some(n) = size else {
+        return Some(1);
     };
-    Number::Some(n)
+    Some(n)
 }
 
 // One width more that is above 1.
@@ -60,10 +60,10 @@ fn meet_wide(met: Widths, w: u64) -> Widths
 }
 
 // One width more, if it is one and above 1.
-pub fn meet(met: Widths, width: Number) -> Widths
+pub fn meet(met: Widths, width: Option<u64>) -> Widths
     ensures { (ws : List ℕ) → agree result ws ≡ agree met (wide (number_of width) ws) }
 {
-    let Number::Some(w) = width else {
+    let Some(w) = width else {
         return met;
     };
     if 1 < w {

@@ -16,7 +16,7 @@ use Rattle.sema.specs.Messages
 use Rattle.sema.specs.Symbols.{GateSig, Table}
 use Rattle.sema.specs.Operands.{unless}
 use Rattle.context.specs.declared.Sink.{Sink}
-use Rattle.context.specs.declared.FoundGate.{FoundGate}
+use Rattle.std.specs.Prelude.{Option as Maybe, Some, None}
 use Rattle.context.specs.declared.GateSig.{GateSig as GateValue}
 use Rattle.context.specs.Sink.{SinkFits}
 use Rattle.context.specs.Values.{found_gate_of}
@@ -25,7 +25,6 @@ use Rattle.lines.specs.Stored.{Shown}
 use Rattle.lines.specs.declared.Severity.{Severity}
 use Rattle.lines.specs.declared.Message.{Message}
 use Rattle.lines.specs.declared.Note.{Note}
-use Rattle.lines.specs.declared.Secondary.{Secondary}
 use Rattle.lines.specs.declared.Diagnostic.{Diagnostic as DiagnosticValue}
 use Rattle.lines.specs.Values.{secondary_of, error_of, Reported}
 use Rattle.promises.specs.Emitted.{Emitted, emitted-one, emitted_then, emitted_as, unless_holds, unless_fails}
@@ -51,12 +50,12 @@ module _ (c : Call) (params qubits : ℕ) where
   pub arity_unlike : (c.params ≡ params → ⊥) → false ≡ fits_arity c params qubits
   arity_unlike e = rw (ne_eqb c.params params e)
 
-  pub arity_fits : {t : List Text} (decl : Secondary) {s : Sink} {o : List ℕ} (b : Bool) → b ≡ fits_arity c params qubits → b ≡ true → SinkFits s → Emitted t (arity_by c params qubits (secondary_of decl)) s o s o
+  pub arity_fits : {t : List Text} (decl : Maybe (Note × Span)) {s : Sink} {o : List ℕ} (b : Bool) → b ≡ fits_arity c params qubits → b ≡ true → SinkFits s → Emitted t (arity_by c params qubits (secondary_of decl)) s o s o
   arity_fits decl b is e f =
       let g = (and-eq-true_iff (eqb c.params params) (eqb c.args (qubits + c.controls))).0 (sym is ∙ e) in
       emitted_then (unless_holds _ _ g.0 f) (unless_holds _ _ g.1 f)
 
-module _ {t : List Text} (c : Call) (n : ℕ) (decl : Secondary) {s : Sink} {o : List ℕ} where
+module _ {t : List Text} (c : Call) (n : ℕ) (decl : Maybe (Note × Span)) {s : Sink} {o : List ℕ} where
   pub params_fit : c.params ≡ n → SinkFits s → Emitted t (params_by c n (secondary_of decl)) s o s o
   params_fit e f = unless_holds _ _ (eq-eqb c.params n e) f
 
@@ -87,21 +86,21 @@ module _ (t : List Text) (c : Call) {text : List ℕ} (e : Shown text (name_at t
   standard_some p q k m = emitted_as m (ap (standard_by c) (sym k ∙ signature_is))
 
   pub standard_fits : {s : Sink} {o : List ℕ} (p q : ℕ) (b : Bool) → f ≡ Signature.Standard p q → b ≡ fits_arity c p q → b ≡ true → SinkFits s → Emitted t (standard_of t c) s o s o
-  standard_fits p q b k is h m = standard_some p q k (arity_fits c p q Secondary.None b is h m)
+  standard_fits p q b k is h m = standard_some p q k (arity_fits c p q None b is h m)
 
   pub standard_none : {s : Sink} {o : List ℕ} {r : Sink} {o' : List ℕ} {d : DiagnosticValue} → f ≡ Signature.None → d ≡ error_of (Message.GateNotDefined c.name) c.span → Reported t d s o r o' → Emitted t (standard_of t c) s o r o'
   unfolding standard_by
   standard_none k l m = emitted_as (emitted-one (rw l at m)) (ap (standard_by c) (sym k ∙ signature_is))
 
 -- a definition of the program, or none
-module _ {t : List Text} (gs : Table GateSig) (c : Call) {s : Sink} {o : List ℕ} {f : FoundGate} (e : found_gate_of f ≡ gs c.name) where
-  pub undefined : {r : Sink} {o' : List ℕ} → f ≡ FoundGate.None → Emitted t (standard_of t c) s o r o' → Emitted t (signature_by t gs c) s o r o'
+module _ {t : List Text} (gs : Table GateSig) (c : Call) {s : Sink} {o : List ℕ} {f : Maybe GateValue} (e : found_gate_of f ≡ gs c.name) where
+  pub undefined : {r : Sink} {o' : List ℕ} → f ≡ None → Emitted t (standard_of t c) s o r o' → Emitted t (signature_by t gs c) s o r o'
   unfolding signature_by
   undefined k m = rw (← e, k, signature_by) m
 
-  pub defined : {r : Sink} {o' : List ℕ} (sig : GateValue) → f ≡ FoundGate.Some sig → Emitted t (arity_by c sig.param_count sig.qubit_count (some (Messages.defined_here c.name, sig.decl_span))) s o r o' → Emitted t (signature_by t gs c) s o r o'
+  pub defined : {r : Sink} {o' : List ℕ} (sig : GateValue) → f ≡ Some sig → Emitted t (arity_by c sig.param_count sig.qubit_count (some (Messages.defined_here c.name, sig.decl_span))) s o r o' → Emitted t (signature_by t gs c) s o r o'
   unfolding signature_by
   defined sig k m = rw (← e, k, signature_by) m
 
-  pub defined-fits : (sig : GateValue) (b : Bool) → f ≡ FoundGate.Some sig → b ≡ fits_arity c sig.param_count sig.qubit_count → b ≡ true → SinkFits s → Emitted t (signature_by t gs c) s o s o
-  defined-fits sig b k is h m = defined sig k (arity_fits c _ _ (Secondary.Some (Note.DefinedHere c.name) sig.decl_span) b is h m)
+  pub defined-fits : (sig : GateValue) (b : Bool) → f ≡ Some sig → b ≡ fits_arity c sig.param_count sig.qubit_count → b ≡ true → SinkFits s → Emitted t (signature_by t gs c) s o s o
+  defined-fits sig b k is h m = defined sig k (arity_fits c _ _ (Some ((Note.DefinedHere c.name), sig.decl_span)) b is h m)

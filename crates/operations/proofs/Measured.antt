@@ -27,7 +27,7 @@ use Rattle.context.specs.declared.Sink.{Sink}
 use Rattle.context.specs.declared.After.{After}
 use Rattle.context.specs.declared.State.{State}
 use Rattle.context.specs.Sink.{SinkFits}
-use Rattle.context.specs.declared.Number.{Number}
+use Rattle.std.specs.Prelude.{Option as Maybe, Some, None}
 use Rattle.context.specs.Values.{operand_of, number_of, ends_of}
 use Rattle.context.specs.View.{number_at, PlaceOk, Placed, scopes_of, keys_in, marks_of, mark_by, measure_span, span_at, context_of}
 use Rattle.accepted.specs.Cases.{blank_operand}
@@ -189,7 +189,7 @@ module _ (tree : List ℕ) (left : ℕ) (st : State) (h : IsOk (stmt (texts_of t
 
 -- the keys that a measure statement sets
 pub measured-keys : (tree : List ℕ) (left at : ℕ) → IsOk (stmt (texts_of tree) left tree at) → get_or tree at 0 ≡ 8 → (op : Operand) (m : ℕ) → operand (texts_of tree) tree (at + 1) ≡ ok (operand_of op) m
-    → (ss : Symbols) (size : Number) → number_of size ≡ size_of (get ss op.name) → (ks : List Key) → add_measured ks op.name (number_of size) (ends_of op.slice) (number_of op.index) ≡ stmt_keys (stmt (texts_of tree) left tree at) ss ks
+    → (ss : Symbols) (size : Maybe ℕ) → number_of size ≡ size_of (get ss op.name) → (ks : List Key) → add_measured ks op.name (number_of size) (ends_of op.slice) (number_of op.index) ≡ stmt_keys (stmt (texts_of tree) left tree at) ss ks
 unfolding keys_stmt
 measured-keys tree left at h b op m e ss size f ks =
     let is = of.measure_is (texts_of tree) left tree at h b m (sym (next_is e)) _ refl in

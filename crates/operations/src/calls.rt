@@ -24,10 +24,10 @@ use accepted::exprs::skip_exprs;
 use accepted::numbers::{span_at, u16_at};
 use accepted::parts::skip_operands;
 use constants::Total;
-use context::{FoundGate, Index, Sink};
+use context::{Index, Sink};
 use gates::Signature;
 use lines::pieces::name_of;
-use lines::{Diagnostic, Message, Note, Secondary, Severity};
+use lines::{Diagnostic, Message, Note, Severity};
 use span::Span;
 use text::wide;
 
@@ -96,7 +96,7 @@ fn check_param_count(
     out: &mut [u8],
     call: Call,
     params: usize,
-    decl: Secondary,
+    decl: Option<(Note, Span)>,
     sink: Sink,
 ) -> Sink
     requires { TextsAt tree.now index.now × (call.name < length (texts_of tree.now)) × NoteBelow (length (texts_of tree.now)) decl × SinkFits sink }
@@ -123,7 +123,7 @@ fn check_qubit_count(
     out: &mut [u8],
     call: Call,
     qubits: usize,
-    decl: Secondary,
+    decl: Option<(Note, Span)>,
     sink: Sink,
 ) -> Sink
     requires { TextsAt tree.now index.now × (call.name < length (texts_of tree.now)) × NoteBelow (length (texts_of tree.now)) decl × SinkFits sink }
@@ -163,7 +163,7 @@ fn report_arity(
     call: Call,
     params: usize,
     qubits: usize,
-    decl: Secondary,
+    decl: Option<(Note, Span)>,
     sink: Sink,
 ) -> Sink
     requires { TextsAt tree.now index.now × (call.name < length (texts_of tree.now)) × NoteBelow (length (texts_of tree.now)) decl × SinkFits sink }
@@ -192,7 +192,7 @@ fn check_standard(tree: &[u8], index: &Index, out: &mut [u8], call: Call, sink: 
                 call,
                 params,
                 qubits,
-                Secondary::None,
+                None,
                 sink,
             )
         }
@@ -223,7 +223,7 @@ pub fn check_signature(
 {
     let name = call.name;
     let found = tables::gate(scratch, name);
-    let FoundGate::Some(sig) = found else {
+    let Some(sig) = found else {
         return check_standard(tree, index, out, call, sink);
     };
     let params = sig.param_count;

@@ -15,10 +15,10 @@ use Rattle.tree.specs.Read.{u64, option}
 use Rattle.tree.specs.Stmts.{qualifier, held, stmt}
 use Rattle.sema.specs.Messages.{Qubit, Bit, Classical, Const}
 use Rattle.sema.specs.Symbols.{Symbols, get_current, declare, decl_kind, after}
-use Rattle.context.specs.declared.Number.{Number}
+use Rattle.context.specs.declared.Symbol.{Symbol as SymbolValue}
+use Rattle.std.specs.Prelude.{Option as Maybe, Some, None}
 use Rattle.context.specs.declared.Symbol.{Symbol}
 use Rattle.context.specs.declared.SymbolKind.{SymbolKind as Kind}
-use Rattle.context.specs.declared.FoundSymbol.{FoundSymbol}
 use Rattle.context.specs.Values.{kind_of, number_of, symbol_of, found_of}
 use Rattle.context.specs.View.{number_at, span_at, type_of, stmt_span, scopes_of, gates_of, functions_of}
 use Rattle.tables.specs.Tables.{Becomes, Inserted}
@@ -31,18 +31,18 @@ use Rattle.scopes.specs.declared.Declaration.{Declaration}
 use Rattle.scopes.specs.Scopes.{register_kind, Declares}
 
 -- a symbol declared: the name is new in the innermost scope, or not
-module _ (s : List ℕ) (depth x : ℕ) (found : FoundSymbol) (f : found_of found ≡ get_current (scopes_of s depth) x) where
-  pub none_found : found ≡ FoundSymbol.None → found_of FoundSymbol.None ≡ get_current (scopes_of s depth) x
+module _ (s : List ℕ) (depth x : ℕ) (found : Maybe SymbolValue) (f : found_of found ≡ get_current (scopes_of s depth) x) where
+  pub none_found : found ≡ None → found_of None ≡ get_current (scopes_of s depth) x
   none_found e = sym (ap found_of e) ∙ f
 
-  pub some-found : (prev : Symbol) → found ≡ FoundSymbol.Some prev → found_of (FoundSymbol.Some prev) ≡ get_current (scopes_of s depth) x
+  pub some-found : (prev : Symbol) → found ≡ Some prev → found_of (Some prev) ≡ get_current (scopes_of s depth) x
   some-found prev e = sym (ap found_of e) ∙ f
 
-  pub declared-new : (u : List ℕ) (symbol : Symbol) → found ≡ FoundSymbol.None → Inserted s u depth x (symbol_of symbol) → Becomes s u depth (declare (scopes_of s depth) x (kind_of symbol.kind) (number_of symbol.size) symbol.decl_span) (gates_of s) (functions_of s)
+  pub declared-new : (u : List ℕ) (symbol : Symbol) → found ≡ None → Inserted s u depth x (symbol_of symbol) → Becomes s u depth (declare (scopes_of s depth) x (kind_of symbol.kind) (number_of symbol.size) symbol.decl_span) (gates_of s) (functions_of s)
   unfolding declare
   declared-new u symbol e i = rw (← none_found e, declare) i
 
-  pub declared-again : (symbol prev : Symbol) → found ≡ FoundSymbol.Some prev → Becomes s s depth (declare (scopes_of s depth) x (kind_of symbol.kind) (number_of symbol.size) symbol.decl_span) (gates_of s) (functions_of s)
+  pub declared-again : (symbol prev : Symbol) → found ≡ Some prev → Becomes s s depth (declare (scopes_of s depth) x (kind_of symbol.kind) (number_of symbol.size) symbol.decl_span) (gates_of s) (functions_of s)
   unfolding declare
   declared-again symbol prev e =
       rw (← some-found prev e, declare) (record { scopes_are = refl; gates_are = refl; functions_are = refl; same_length = refl; same_rest = refl })
@@ -76,7 +76,7 @@ module _ (t : List Text) (left : ℕ) (s : List ℕ) (at : ℕ) (h : IsOk (stmt 
 
     pub register-declares : (kind : Kind) → kind_of kind ≡ register_kind (get_or s at 0)
         → (name : ℕ) → name ≡ number_at 2 s (at + 1)
-        → (size : Number) (k : ℕ) → option u64 s (at + 3) ≡ ok (number_of size) k
+        → (size : Maybe ℕ) (k : ℕ) → option u64 s (at + 3) ≡ ok (number_of size) k
         → (sp : Span) → sp ≡ span_at s k
         → Declares t (stmt t left s at) (record { name = name; symbol = record { kind = kind; size = size; decl_span = sp }; end = k + 8 })
     unfolding after
@@ -95,7 +95,7 @@ module _ (t : List Text) (left : ℕ) (s : List ℕ) (at : ℕ) (h : IsOk (stmt 
       → (name : ℕ) → name ≡ number_at 2 s (k + 1)
       → (m : ℕ) → m ≡ next_of (option (held t) s (k + 3))
       → (sp : Span) → sp ≡ span_at s m
-      → Declares t (stmt t left s at) (record { name = name; symbol = record { kind = kind; size = Number.None; decl_span = sp }; end = m + 8 })
+      → Declares t (stmt t left s at) (record { name = name; symbol = record { kind = kind; size = None; decl_span = sp }; end = m + 8 })
   unfolding after
   classical_declares b k e ty p kind c name q m g sp f =
       declares (of.classical_decl_is t left s at h b k e m g) _ refl (rw q (of.classical_decl-named t left s at h b k e).below) (λ ss. rw (c, p, q, f)) (sym f)

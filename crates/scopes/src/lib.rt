@@ -21,7 +21,7 @@ use accepted::numbers::{span_at, u16_at};
 use accepted::operands::number_at;
 use accepted::parts::skip_qualifier;
 use ast::ClassicalType;
-use context::{FoundSymbol, Number, Symbol, SymbolKind};
+use context::{Symbol, SymbolKind};
 use span::Span;
 use text::wide;
 
@@ -34,17 +34,17 @@ pub struct Declaration {
 }
 
 // The first declaration of a scope stays: the one that was there is the answer.
-pub fn declare(scratch: &mut [u8], depth: usize, x: usize, symbol: Symbol) -> FoundSymbol
+pub fn declare(scratch: &mut [u8], depth: usize, x: usize, symbol: Symbol) -> Option<Symbol>
     requires { (65536 ≤ length scratch.old) × (0 < depth) × (depth ≤ 9) × (x < 256) }
     ensures found { found_of result ≡ get_current (scopes_of scratch.old depth) x }
     ensures becomes { Becomes scratch.old scratch.new depth (declare (scopes_of scratch.old depth) x (kind_of symbol.kind) (number_of symbol.size) symbol.decl_span) (gates_of scratch.old) (functions_of scratch.old) }
     ensures below { (d : ℕ) → d < depth → scopes_of scratch.new d ≡ scopes_of scratch.old d }
 {
-    let FoundSymbol::Some(prev) = tables::get_current(scratch, depth, x) else {
+    let Some(prev) = tables::get_current(scratch, depth, x) else {
         tables::insert(scratch, depth, x, symbol);
-        return FoundSymbol::None;
+        return None;
     };
-    FoundSymbol::Some(prev)
+    Some(prev)
 }
 
 // A type by its case byte.
@@ -113,7 +113,7 @@ fn classical_decl(tree: &[u8], at: usize, left: usize) -> Declaration
         name,
         symbol: Symbol {
             kind,
-            size: Number::None,
+            size: None,
             decl_span,
         },
         end: end + 8,
@@ -149,7 +149,7 @@ fn insert_names(
         let x = u16_at(tree, k);
         let symbol = Symbol {
             kind,
-            size: Number::None,
+            size: None,
             decl_span: span,
         };
         tables::insert(scratch, depth, x, symbol);
@@ -194,7 +194,7 @@ fn insert_params(tree: &[u8], scratch: &mut [u8], depth: usize, at: usize, span:
         let x = u16_at(tree, k + 1);
         let symbol = Symbol {
             kind: SymbolKind::Classical(ty),
-            size: Number::None,
+            size: None,
             decl_span: span,
         };
         tables::insert(scratch, depth, x, symbol);
@@ -220,7 +220,7 @@ pub fn enter_loop(scratch: &mut [u8], depth: usize, x: usize, ty: ClassicalType,
     tables::enter(scratch, depth);
     let symbol = Symbol {
         kind: SymbolKind::Classical(ty),
-        size: Number::None,
+        size: None,
         decl_span: span,
     };
     tables::insert(scratch, depth + 1, x, symbol);

@@ -5,33 +5,32 @@ use mathlib.Core.List.{List}
 use mathlib.Core.Option.{none, some}
 use borrow.Author.Tests.{le-leb, lt-leb}
 use Rattle.sema.specs.Marks.{Key, key}
-use Rattle.context.specs.declared.Number.{Number}
+use Rattle.std.specs.Prelude.{Option as Maybe, Some, None}
 use Rattle.context.specs.Values.{number_of}
 use Rattle.context.specs.View.{key_by, place_in}
-use Rattle.sheet.specs.declared.Covered.{Covered}
 use Rattle.sheet.specs.Sheet.{first, lookup_in, least_in, by_whole, smallest_in}
 use Rattle.sheet.specs.Heads.{whole-key, index_key}
 use Rattle.sheet.specs.Places.{first-same}
 
 module _ (ks : List Key) (sheet : List ℕ) (x : ℕ) where
-  module _ (i : Number) (head whole j r : ℕ) (w : whole ≡ 2 * x) (e : r ≡ first (place_in ks sheet (key_by head j)) (place_in ks sheet (key_by whole 0))) where
-    pub lookup-whole : i ≡ Number.None → head ≡ whole → j ≡ 0 → r ≡ lookup_in ks sheet x (number_of i)
+  module _ (i : Maybe ℕ) (head whole j r : ℕ) (w : whole ≡ 2 * x) (e : r ≡ first (place_in ks sheet (key_by head j)) (place_in ks sheet (key_by whole 0))) where
+    pub lookup-whole : i ≡ None → head ≡ whole → j ≡ 0 → r ≡ lookup_in ks sheet x (number_of i)
     unfolding lookup_in
     lookup-whole n h z = e ∙ rw (n, h, z, w, whole-key x 0) (first-same (place_in ks sheet (key x none)))
 
-    pub lookup-both : i ≡ Number.Some j → head ≡ 2 * x + 1 → r ≡ lookup_in ks sheet x (number_of i)
+    pub lookup-both : i ≡ Some j → head ≡ 2 * x + 1 → r ≡ lookup_in ks sheet x (number_of i)
     unfolding lookup_in
     lookup-both n h = e ∙ rw (n, h, w, whole-key x 0, index_key x j)
 
   module _ (a b : ℕ) where
-    pub smallest-none : b < a → Covered.None ≡ smallest_in ks sheet x (a, b)
+    pub smallest-none : b < a → None ≡ smallest_in ks sheet x (a, b)
     unfolding smallest_in
     smallest-none h = rw (lt-leb a b h)
 
-    by_none : (w : ℕ) (c d : Covered) → w ≡ 0 → by_whole w c d ≡ c
+    by_none : (w : ℕ) (c d : Maybe (ℕ × ℕ)) → w ≡ 0 → by_whole w c d ≡ c
     by_none w c d e = rw e
 
-    by_some : (w : ℕ) (c d : Covered) → (w ≡ 0 → ⊥) → by_whole w c d ≡ d
+    by_some : (w : ℕ) (c d : Maybe (ℕ × ℕ)) → (w ≡ 0 → ⊥) → by_whole w c d ≡ d
     by_some zero c d f = absurd (f refl)
     by_some (suc w) c d f = refl
 
@@ -40,13 +39,13 @@ module _ (ks : List Key) (sheet : List ℕ) (x : ℕ) where
       unfolding lookup_in
       whole-place = sym e
 
-      pub smallest-own : (r : Covered) → w ≡ 0 → r ≡ least_in x (a, b) ks sheet → r ≡ smallest_in ks sheet x (a, b)
+      pub smallest-own : (r : Maybe (ℕ × ℕ)) → w ≡ 0 → r ≡ least_in x (a, b) ks sheet → r ≡ smallest_in ks sheet x (a, b)
       unfolding smallest_in
       smallest-own r z f = rw (le-leb a b l, whole-place, ← f) (sym (by_none w r _ z))
 
-      pub smallest-whole : (p : ℕ) → (w ≡ 0 → ⊥) → p ≡ lookup_in ks sheet x (some a) → Covered.At a p ≡ smallest_in ks sheet x (a, b)
+      pub smallest-whole : (p : ℕ) → (w ≡ 0 → ⊥) → p ≡ lookup_in ks sheet x (some a) → Some (a, p) ≡ smallest_in ks sheet x (a, b)
       unfolding smallest_in
-      smallest-whole p z f = rw (le-leb a b l, whole-place, ← f) (sym (by_some w (least_in x (a, b) ks sheet) (Covered.At a p) z))
+      smallest-whole p z f = rw (le-leb a b l, whole-place, ← f) (sym (by_some w (least_in x (a, b) ks sheet) (Some (a, p)) z))
 
 pub ruleset looked_up = (lookup-whole, lookup-both)
 

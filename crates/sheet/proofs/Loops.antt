@@ -11,7 +11,7 @@ use lib.Dec.{eqb}
 use Rattle.sema.specs.Marks.{Key, in_slice}
 use Rattle.sema.specs.Keys.{same_key}
 use Rattle.context.specs.View.{key_at, keys_from, keys_in}
-use Rattle.sheet.specs.declared.Covered.{Covered}
+use Rattle.std.specs.Prelude.{Option as Maybe, Some, None}
 use Rattle.sheet.specs.Sheet.{position, offer, least_in}
 
 -- the keys from number k on
@@ -64,15 +64,15 @@ pub ruleset seeking = (seeking-start, seeking-found, seeking-more, seeking-end)
 
 -- a key more before those that are compared, whether it has a place in the sheet or not
 module _ (x : ℕ) (r : ℕ × ℕ) (l : Key) (ls : List Key) where
-  abbrev more-least : ℕ → Covered → Covered
+  abbrev more-least : ℕ → Maybe (ℕ × ℕ) → Maybe (ℕ × ℕ)
   more-least p c = cond (eqb l.name x && in_slice r l.index) (offer l.index p c) c
 
-  least-unplaced : (ks : List Key) → least_in x r ks [] ≡ Covered.None
+  least-unplaced : (ks : List Key) → least_in x r ks [] ≡ None
   unfolding least_in
   least-unplaced [] = refl
   least-unplaced (k ∷ ks) = refl
 
-  same_none : (b : Bool) (o : Option ℕ) → Covered.None ≡ cond b (offer o 0 Covered.None) Covered.None
+  same_none : (b : Bool) (o : Option ℕ) → None ≡ cond b (offer o 0 None) None
   unfolding offer
   same_none true none = refl
   same_none true (some i) = refl
@@ -86,16 +86,16 @@ module _ (x : ℕ) (r : ℕ × ℕ) (l : Key) (ls : List Key) where
   least_more (v ∷ vs) (suc j) = least_more vs j
 
 -- the keys from number k on are compared
-pub record Comparing (index : List ℕ) (count x a b : ℕ) (sheet : List ℕ) (best : Covered) (k : ℕ) : Type 0 where
+pub record Comparing (index : List ℕ) (count x a b : ℕ) (sheet : List ℕ) (best : Maybe (ℕ × ℕ)) (k : ℕ) : Type 0 where
   pub within : k ≤ count
   pub same : best ≡ least_in x (a, b) (rest index count k) (drop k sheet)
 
-pub comparing-start : (index : List ℕ) (count x a b : ℕ) (sheet : List ℕ) → Comparing index count x a b sheet Covered.None count
+pub comparing-start : (index : List ℕ) (count x a b : ℕ) (sheet : List ℕ) → Comparing index count x a b sheet None count
 unfolding least_in
 comparing-start index count x a b sheet = record { within = omega arith; same = rw (rest_end index count count (omega arith)) }
 
-module _ {index : List ℕ} {count x a b : ℕ} {sheet : List ℕ} {best : Covered} {k : ℕ} (c : Comparing index count x a b sheet best k) where
-  pub comparing-more : (j : ℕ) (r : Covered) → 0 < k → j ≡ k - 1
+module _ {index : List ℕ} {count x a b : ℕ} {sheet : List ℕ} {best : Maybe (ℕ × ℕ)} {k : ℕ} (c : Comparing index count x a b sheet best k) where
+  pub comparing-more : (j : ℕ) (r : Maybe (ℕ × ℕ)) → 0 < k → j ≡ k - 1
       → r ≡ cond (eqb (key_at index j).name x && in_slice (a, b) (key_at index j).index) (offer (key_at index j).index (get_or sheet j 0) best) best
       → Comparing index count x a b sheet r j
   comparing-more j r h e f =

@@ -7,12 +7,10 @@ use lib.Dec.{eqb, leb, ltb}
 use borrow.Author.Tests.{eq-eqb, ne_eqb, le-leb, lt-leb}
 use Rattle.sema.specs.Marks.{key, in_slice, is_index, below_size, measures, resets}
 use Rattle.sema.specs.Keys.{same_index, same_key}
-use Rattle.context.specs.declared.Number.{Number}
-use Rattle.context.specs.declared.Ends.{Ends}
+use Rattle.std.specs.Prelude.{Option as Maybe, Some, None}
 use Rattle.context.specs.declared.GateOperand.{GateOperand}
 use Rattle.context.specs.Values.{number_of, ends_of, operand_of}
 use Rattle.context.specs.View.{key_by}
-use Rattle.sheet.specs.declared.Covered.{Covered}
 use Rattle.sheet.specs.Sheet.{smaller, offer, reaches, touches}
 use Rattle.sheet.specs.Heads.{even-key, odd-key, by_parity, key-name, head-eq}
 use Rattle.sheet.specs.Places.{by_test, key-eq, same_key_lem}
@@ -60,34 +58,34 @@ module _ (h i : ℕ) where
     unfolding is_index
     index_is j = rw (odd-key h i z)
 
-    pub size_is : (size : Number) (n : ℕ) → size ≡ Number.Some n → ltb i n ≡ below_size (number_of size) (key_by h i).index
+    pub size_is : (size : Maybe ℕ) (n : ℕ) → size ≡ Some n → ltb i n ≡ below_size (number_of size) (key_by h i).index
     unfolding below_size
     size_is size n e = rw (e, odd-key h i z)
 
-    pub size_none : (size : Number) → size ≡ Number.None → false ≡ below_size (number_of size) (key_by h i).index
+    pub size_none : (size : Maybe ℕ) → size ≡ None → false ≡ below_size (number_of size) (key_by h i).index
     unfolding below_size
     size_none size e = rw (e, odd-key h i z)
 
 pub ruleset indices = (same-even, same-odd, not_same, within_even, within_low, within_is, index-even, index_is, size-even, size_is, size_none)
 
 -- the smaller index
-module _ (i p : ℕ) (best : Covered) where
-  pub nearer_this : (j q : ℕ) → best ≡ Covered.At j q → i ≤ j → Covered.At i p ≡ smaller i p best
+module _ (i p : ℕ) (best : Maybe (ℕ × ℕ)) where
+  pub nearer_this : (j q : ℕ) → best ≡ Some (j, q) → i ≤ j → Some (i, p) ≡ smaller i p best
   unfolding smaller
   nearer_this j q e l = rw (e, le-leb i j l)
 
-  pub nearer_that : (j q : ℕ) → best ≡ Covered.At j q → j < i → Covered.At j q ≡ smaller i p best
+  pub nearer_that : (j q : ℕ) → best ≡ Some (j, q) → j < i → Some (j, q) ≡ smaller i p best
   unfolding smaller
   nearer_that j q e l = rw (e, lt-leb i j l)
 
-  pub nearer_first : best ≡ Covered.None → Covered.At i p ≡ smaller i p best
+  pub nearer_first : best ≡ None → Some (i, p) ≡ smaller i p best
   unfolding smaller
   nearer_first e = rw e
 
 pub ruleset nearest = (nearer_this, nearer_that, nearer_first)
 
 -- an index with its place
-module _ (best : Covered) (x a b h i p : ℕ) where
+module _ (best : Maybe (ℕ × ℕ)) (x a b h i p : ℕ) where
   offer-none : (o : Option ℕ) → p ≡ 0 → offer o p best ≡ best
   unfolding offer
   offer-none none e = refl
@@ -98,11 +96,11 @@ module _ (best : Covered) (x a b h i p : ℕ) where
   offer-some zero e f = absurd (f refl)
   offer-some (suc n) e f = refl
 
-  same-either : (t : Bool) (c : Covered) → c ≡ best → best ≡ cond t c best
+  same-either : (t : Bool) (c : Maybe (ℕ × ℕ)) → c ≡ best → best ≡ cond t c best
   same-either true c e = sym e
   same-either false c e = refl
 
-  abbrev pub Offered : Covered → Type 0
+  abbrev pub Offered : Maybe (ℕ × ℕ) → Type 0
   Offered r = r ≡ cond (eqb (key_by h i).name x && in_slice (a, b) (key_by h i).index) (offer (key_by h i).index p best) best
 
   pub offered_none : p ≡ 0 → Offered best
@@ -114,7 +112,7 @@ module _ (best : Covered) (x a b h i p : ℕ) where
   pub offered_out : (w : Bool) → h / 2 ≡ x → w ≡ in_slice (a, b) (key_by h i).index → w ≡ false → Offered best
   offered_out w e f g = rw (key-name h i, eq-eqb (h / 2) x e, ← f, g)
 
-  pub offered_some : (w : Bool) (r : Covered) → h / 2 ≡ x → w ≡ in_slice (a, b) (key_by h i).index → w ≡ true → (p ≡ 0 → ⊥) → r ≡ smaller i p best → Offered r
+  pub offered_some : (w : Bool) (r : Maybe (ℕ × ℕ)) → h / 2 ≡ x → w ≡ in_slice (a, b) (key_by h i).index → w ≡ true → (p ≡ 0 → ⊥) → r ≡ smaller i p best → Offered r
   unfolding in_slice
   offered_some w r e f g n s =
       rw (key-name h i, eq-eqb (h / 2) x e, ← f, g)
@@ -125,7 +123,7 @@ module _ (best : Covered) (x a b h i p : ℕ) where
 pub ruleset offers = (offered_none, offered_other, offered_out, offered_some)
 
 -- the keys that an operand reaches
-module _ (all : Bool) (size : Option ℕ) (slice : Ends) (at : Number) (o : Option ℕ) (r : Bool) where
+module _ (all : Bool) (size : Option ℕ) (slice : Maybe (ℕ × ℕ)) (at : Maybe ℕ) (o : Option ℕ) (r : Bool) where
   abbrev Reached : Type 0
   Reached = r ≡ reaches all size (ends_of slice) (number_of at) o
 
@@ -134,19 +132,19 @@ module _ (all : Bool) (size : Option ℕ) (slice : Ends) (at : Number) (o : Opti
   reach_by true e f = sym f
   reach_by false e f = sym e
 
-  pub reach_slice : (a b : ℕ) → slice ≡ Ends.Some a b → r ≡ in_slice (a, b) o → Reached
+  pub reach_slice : (a b : ℕ) → slice ≡ Some (a, b) → r ≡ in_slice (a, b) o → Reached
   unfolding measures resets
   reach_slice a b e f = reach_by all (rw (e, f)) (rw (e, f))
 
-  pub reach_index : (j : ℕ) → slice ≡ Ends.None → at ≡ Number.Some j → r ≡ is_index j o → Reached
+  pub reach_index : (j : ℕ) → slice ≡ None → at ≡ Some j → r ≡ is_index j o → Reached
   unfolding measures resets
   reach_index j e g f = reach_by all (rw (e, g, f)) (rw (e, g, f))
 
-  pub reach_all : slice ≡ Ends.None → at ≡ Number.None → all ≡ true → r ≡ true → Reached
+  pub reach_all : slice ≡ None → at ≡ None → all ≡ true → r ≡ true → Reached
   unfolding reaches resets
   reach_all e g t f = rw (e, g, t, f)
 
-  pub reach_size : slice ≡ Ends.None → at ≡ Number.None → all ≡ false → r ≡ below_size size o → Reached
+  pub reach_size : slice ≡ None → at ≡ None → all ≡ false → r ≡ below_size size o → Reached
   unfolding reaches measures
   reach_size e g t f = rw (e, g, t, f)
 

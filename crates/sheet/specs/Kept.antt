@@ -9,7 +9,7 @@ use Rattle.ast.specs.Tree.{TextNumber}
 use Rattle.sema.specs.Marks.{Key, key, in_slice}
 use Rattle.sema.specs.Keys.{same_key}
 use Rattle.context.specs.View.{place_in, PlaceOk, Placed}
-use Rattle.sheet.specs.declared.Covered.{Covered}
+use Rattle.std.specs.Prelude.{Option as Maybe, Some, None}
 use Rattle.sheet.specs.Sheet.{first, lookup_in, smaller, offer, least_in, by_whole, smallest_in, stored, united}
 use Rattle.sheet.specs.Places.{by_test, place_here, place-there}
 
@@ -66,20 +66,20 @@ module _ (P : ℕ → Type 0) (z : P 0) where
   lookup-each ks vs x (some i) e = first-each _ _ (place-each ks vs (key x (some i)) e) (place-each ks vs (key x none) e)
 
   -- a covered index has such a place
-  abbrev Held : Covered → Type 0
-  Held Covered.None = Unit {0}
-  Held (Covered.At i p) = P p
+  abbrev Held : Maybe (ℕ × ℕ) → Type 0
+  Held None = Unit {0}
+  Held (Some (i, p)) = P p
 
-  cond-held : (b : Bool) (c d : Covered) → Held c → Held d → Held (cond b c d)
+  cond-held : (b : Bool) (c d : Maybe (ℕ × ℕ)) → Held c → Held d → Held (cond b c d)
   cond-held true c d h g = h
   cond-held false c d h g = g
 
-  smaller-held : (i p : ℕ) (c : Covered) → P p → Held c → Held (smaller i p c)
+  smaller-held : (i p : ℕ) (c : Maybe (ℕ × ℕ)) → P p → Held c → Held (smaller i p c)
   unfolding smaller
-  smaller-held i p Covered.None h g = h
-  smaller-held i p (Covered.At j q) h g = cond-held (leb i j) (Covered.At i p) (Covered.At j q) h g
+  smaller-held i p None h g = h
+  smaller-held i p (Some (j, q)) h g = cond-held (leb i j) (Some (i, p)) (Some (j, q)) h g
 
-  offer-held : (o : Option ℕ) (p : ℕ) (c : Covered) → P p → Held c → Held (offer o p c)
+  offer-held : (o : Option ℕ) (p : ℕ) (c : Maybe (ℕ × ℕ)) → P p → Held c → Held (offer o p c)
   unfolding offer
   offer-held none p c h g = g
   offer-held (some i) zero c h g = g
@@ -93,14 +93,14 @@ module _ (P : ℕ → Type 0) (z : P 0) where
       let rest = least-held x r ks vs (λ i. e (suc i)) in
       cond-held (eqb k.name x && in_slice r k.index) _ _ (offer-held k.index v (least_in x r ks vs) (e 0) rest) rest
 
-  by_held : (w : ℕ) (c d : Covered) → Held c → Held d → Held (by_whole w c d)
+  by_held : (w : ℕ) (c d : Maybe (ℕ × ℕ)) → Held c → Held d → Held (by_whole w c d)
   by_held zero c d h g = h
   by_held (suc w) c d h g = g
 
   smallest-held : (ks : List Key) (vs : List ℕ) (x : TextNumber) (r : ℕ × ℕ) → Each vs → Held (smallest_in ks vs x r)
   unfolding smallest_in
   smallest-held ks vs x r e =
-      cond-held (leb r.0 r.1) _ Covered.None
+      cond-held (leb r.0 r.1) _ None
       (by_held (place_in ks vs (key x none)) (least_in x r ks vs) _ (least-held x r ks vs e) (lookup-each ks vs x (some r.0) e))
       tt
 
@@ -131,5 +131,5 @@ module _ (tree : List ℕ) where
     pub lookup-placed : (i : Option ℕ) → PlaceOk tree (lookup_in ks vs x i)
     lookup-placed i = lookup-each (PlaceOk tree) tt ks vs x i e.each
 
-    pub smallest-placed : (r : ℕ × ℕ) (i p : ℕ) → Covered.At i p ≡ smallest_in ks vs x r → PlaceOk tree p
+    pub smallest-placed : (r : ℕ × ℕ) (i p : ℕ) → Some (i, p) ≡ smallest_in ks vs x r → PlaceOk tree p
     smallest-placed r i p h = let g = smallest-held (PlaceOk tree) tt ks vs x r e.each in rw (← h) at g

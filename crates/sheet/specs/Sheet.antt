@@ -7,7 +7,7 @@ use Rattle.sema.specs.Limits.{key_limit}
 use Rattle.sema.specs.Marks.{Key, key, Effect, set, keep, in_slice, measures, resets}
 use Rattle.sema.specs.Keys.{same_key, has_key}
 use Rattle.context.specs.View.{place_in, keys_in, key_base, measure_span}
-use Rattle.sheet.specs.declared.Covered.{Covered}
+use Rattle.std.specs.Prelude.{Option as Maybe, Some, None}
 
 -- an index with room for all keys, and so many keys in it
 pub record Indexed (index : List ℕ) (count : ℕ) : Type 0 where
@@ -30,38 +30,38 @@ lookup_in ks sheet x none = place_in ks sheet (key x none)
 lookup_in ks sheet x (some i) = first (place_in ks sheet (key x (some i))) (place_in ks sheet (key x none))
 
 -- the smaller index
-unfoldable pub smaller : ℕ → ℕ → Covered → Covered
-smaller i p Covered.None = Covered.At i p
-smaller i p (Covered.At j q) = cond (leb i j) (Covered.At i p) (Covered.At j q)
+unfoldable pub smaller : ℕ → ℕ → Maybe (ℕ × ℕ) → Maybe (ℕ × ℕ)
+smaller i p None = Some (i, p)
+smaller i p (Some (j, q)) = cond (leb i j) (Some (i, p)) (Some (j, q))
 
 -- an index with its place, if it has one
-unfoldable pub offer : Option ℕ → ℕ → Covered → Covered
+unfoldable pub offer : Option ℕ → ℕ → Maybe (ℕ × ℕ) → Maybe (ℕ × ℕ)
 offer none p c = c
 offer (some i) zero c = c
 offer (some i) (suc p) c = smaller i (suc p) c
 
 -- the smallest index of a slice whose own key is marked
-unfoldable pub least_in : TextNumber → ℕ × ℕ → List Key → List ℕ → Covered
-least_in x r [] vs = Covered.None
-least_in x r (k ∷ ks) [] = Covered.None
+unfoldable pub least_in : TextNumber → ℕ × ℕ → List Key → List ℕ → Maybe (ℕ × ℕ)
+least_in x r [] vs = None
+least_in x r (k ∷ ks) [] = None
 least_in x r (k ∷ ks) (v ∷ vs) =
     cond (eqb k.name x && in_slice r k.index) (offer k.index v (least_in x r ks vs)) (least_in x r ks vs)
 
 -- by the place of the whole key: there is none, or there is one
-abbrev pub by_whole : ℕ → Covered → Covered → Covered
+abbrev pub by_whole : ℕ → Maybe (ℕ × ℕ) → Maybe (ℕ × ℕ) → Maybe (ℕ × ℕ)
 by_whole zero c d = c
 by_whole (suc p) c d = d
 
 -- "a slice with start ≤ end by the whole key and its indices; start > end by none"
-unfoldable pub smallest_in : List Key → List ℕ → TextNumber → ℕ × ℕ → Covered
+unfoldable pub smallest_in : List Key → List ℕ → TextNumber → ℕ × ℕ → Maybe (ℕ × ℕ)
 smallest_in ks sheet x r =
     cond (leb r.0 r.1)
-    (by_whole (place_in ks sheet (key x none)) (least_in x r ks sheet) (Covered.At r.0 (lookup_in ks sheet x (some r.0))))
-    Covered.None
+    (by_whole (place_in ks sheet (key x none)) (least_in x r ks sheet) (Some (r.0, (lookup_in ks sheet x (some r.0)))))
+    None
 
-abbrev pub covered_of : List ℕ → Covered → Option (ℕ × Span)
-covered_of tree (Covered.At i place) = some (i, measure_span tree place)
-covered_of tree Covered.None = none
+abbrev pub covered_of : List ℕ → Maybe (ℕ × ℕ) → Option (ℕ × Span)
+covered_of tree (Some (i, place)) = some (i, measure_span tree place)
+covered_of tree None = none
 
 -- no two keys are equal
 unfoldable pub Distinct : List Key → Type 0

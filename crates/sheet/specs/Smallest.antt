@@ -14,34 +14,34 @@ use Rattle.sema.specs.Marks.{Key, key, in_slice, lookup_measured, smallest_cover
 use Rattle.sema.specs.Keys.{same_key, has_key}
 use Rattle.sema.proofs.LawsCover.{smallest-none, smallest-some, smallest-empty}
 use Rattle.context.specs.View.{place_in, measure_span, mark_by, marks_of}
-use Rattle.sheet.specs.declared.Covered.{Covered}
+use Rattle.std.specs.Prelude.{Option as Maybe, Some, None}
 use Rattle.sheet.specs.Sheet.{first, lookup_in, smaller, offer, least_in, by_whole, smallest_in, covered_of, Distinct}
 use Rattle.sheet.specs.Places.{by_test, key-eq, same_key_lem, place_here, place-there, unplaced, first-none, first_pos, lookup-marks}
 
 -- c is the smallest index of a range that has a place, with its place
-unfoldable pub IsLeast : (ℕ → ℕ) → ℕ → ℕ → Covered → Type 0
-IsLeast own a b Covered.None = (j : ℕ) → a ≤ j → j ≤ b → own j ≡ 0
-IsLeast own a b (Covered.At i p) = (a ≤ i) × (i ≤ b) × (0 < p) × (own i ≡ p) × ((j : ℕ) → a ≤ j → j < i → own j ≡ 0)
+unfoldable pub IsLeast : (ℕ → ℕ) → ℕ → ℕ → Maybe (ℕ × ℕ) → Type 0
+IsLeast own a b None = (j : ℕ) → a ≤ j → j ≤ b → own j ≡ 0
+IsLeast own a b (Some (i, p)) = (a ≤ i) × (i ≤ b) × (0 < p) × (own i ≡ p) × ((j : ℕ) → a ≤ j → j < i → own j ≡ 0)
 
 module _ (own own' : ℕ → ℕ) (a b : ℕ) where
-  least-same : ((j : ℕ) → a ≤ j → j ≤ b → own' j ≡ own j) → (c : Covered) → IsLeast own a b c → IsLeast own' a b c
+  least-same : ((j : ℕ) → a ≤ j → j ≤ b → own' j ≡ own j) → (c : Maybe (ℕ × ℕ)) → IsLeast own a b c → IsLeast own' a b c
   unfolding IsLeast
-  least-same s Covered.None h = λ j u v. s j u v ∙ h j u v
-  least-same s (Covered.At i p) h =
+  least-same s None h = λ j u v. s j u v ∙ h j u v
+  least-same s (Some (i, p)) h =
       (h.0, h.1, h.2, s i h.0 h.1 ∙ h.3, λ j u v. s j u (omega (arith, h.1)) ∙ h.4 j u v)
 
   module _ (i : ℕ) (l : a ≤ i) (r : i ≤ b) (e : own i ≡ 0) (s : (j : ℕ) → (j ≡ i → ⊥) → own' j ≡ own j) where
-    least-smaller : (p : ℕ) → 0 < p → own' i ≡ p → (c : Covered) → IsLeast own a b c → IsLeast own' a b (smaller i p c)
+    least-smaller : (p : ℕ) → 0 < p → own' i ≡ p → (c : Maybe (ℕ × ℕ)) → IsLeast own a b c → IsLeast own' a b (smaller i p c)
     unfolding IsLeast smaller
-    least-smaller p z f Covered.None h = (l, r, z, f, λ j u v. s j (λ q. omega arith) ∙ h j u (omega arith))
-    least-smaller p z f (Covered.At j q) h =
+    least-smaller p z f None h = (l, r, z, f, λ j u v. s j (λ q. omega arith) ∙ h j u (omega arith))
+    least-smaller p z f (Some (j, q)) h =
         by_test (leb i j)
         (λ t. rw t (l, r, z, f, λ k u v. s k (λ w. omega arith) ∙ h.4 k u (omega (arith, leb-true i j t))))
         (λ t.
         let g : j < i = leb-false i j t in
         rw t (h.0, h.1, h.2, s j (λ w. omega arith) ∙ h.3, λ k u v. s k (λ w. omega arith) ∙ h.4 k u v))
 
-    least-offer : (p : ℕ) → own' i ≡ p → (c : Covered) → IsLeast own a b c → IsLeast own' a b (offer (some i) p c)
+    least-offer : (p : ℕ) → own' i ≡ p → (c : Maybe (ℕ × ℕ)) → IsLeast own a b c → IsLeast own' a b (offer (some i) p c)
     unfolding offer
     least-offer zero f c h =
         least-same
@@ -86,13 +86,13 @@ module _ (x : TextNumber) (a b : ℕ) where
           let h : j ≡ i = cc in absurd (f h))
           (λ t. place-there (key x (some i)) ks (key x (some j)) v vs t)
 
-      inside : (c : Covered) → IsLeast (own ks vs) a b c → IsLeast (own (key x (some i) ∷ ks) (v ∷ vs)) a b (offer (some i) v c)
+      inside : (c : Maybe (ℕ × ℕ)) → IsLeast (own ks vs) a b c → IsLeast (own (key x (some i) ∷ ks) (v ∷ vs)) a b (offer (some i) v c)
       inside c h =
           least-offer (own ks vs) (own (key x (some i) ∷ ks) (v ∷ vs)) a b i l r
           (unplaced ks vs (key x (some i)) d) other v
           (place_here (key x (some i)) ks (key x (some i)) v vs (same_key_lem (key x (some i)))) c h
 
-    by_index : (o : Option ℕ) → in_slice (a, b) o ≡ true → has_key ks (key x o) ≡ false → (c : Covered)
+    by_index : (o : Option ℕ) → in_slice (a, b) o ≡ true → has_key ks (key x o) ≡ false → (c : Maybe (ℕ × ℕ))
         → IsLeast (own ks vs) a b c → IsLeast (own (key x o ∷ ks) (v ∷ vs)) a b (offer o v c)
     unfolding in_slice
     by_index none e d c h = absurd (false≢true e)
@@ -100,7 +100,7 @@ module _ (x : TextNumber) (a b : ℕ) where
         let t = (and-eq-true_iff (leb a i) (leb i b)).0 e in
         inside i d (leb-true a i t.0) (leb-true i b t.1) c h
 
-    by_name : (n : TextNumber) (o : Option ℕ) → n ≡ x → in_slice (a, b) o ≡ true → has_key ks (key n o) ≡ false → (c : Covered)
+    by_name : (n : TextNumber) (o : Option ℕ) → n ≡ x → in_slice (a, b) o ≡ true → has_key ks (key n o) ≡ false → (c : Maybe (ℕ × ℕ))
         → IsLeast (own ks vs) a b c → IsLeast (own (key n o ∷ ks) (v ∷ vs)) a b (offer o v c)
     by_name n o f e d c h = rw f (by_index o e (rw f at d) c h)
 
@@ -136,22 +136,22 @@ module _ (tree : List ℕ) (ks : List Key) (sheet : List ℕ) (x : TextNumber) w
       unfolding lookup_in
       by_own j p e = looked j p (rw (e, z) (first-none p))
 
-      least-marks : a ≤ b → (c : Covered) → IsLeast (own x a b ks sheet) a b c → covered_of tree c ≡ smallest_covered (marks_of tree ks sheet) x (a, b)
+      least-marks : a ≤ b → (c : Maybe (ℕ × ℕ)) → IsLeast (own x a b ks sheet) a b c → covered_of tree c ≡ smallest_covered (marks_of tree ks sheet) x (a, b)
       unfolding IsLeast mark_by
-      least-marks l Covered.None h =
+      least-marks l None h =
           sym ((smallest-none (marks_of tree ks sheet) x a b).1 (λ j u v. by_own j 0 (h j u v)))
-      least-marks l (Covered.At i p) h =
+      least-marks l (Some (i, p)) h =
           sym ((smallest-some (marks_of tree ks sheet) x a b i (measure_span tree p)).1 (h.0, h.1, by_own i p h.3 ∙ mark-some p h.2, λ j u v. by_own j 0 (h.4 j u v)))
 
     -- the whole key has a mark
-    whole-marks : a ≤ b → 0 < whole → covered_of tree (Covered.At a (lookup_in ks sheet x (some a))) ≡ smallest_covered (marks_of tree ks sheet) x (a, b)
+    whole-marks : a ≤ b → 0 < whole → covered_of tree (Some (a, (lookup_in ks sheet x (some a)))) ≡ smallest_covered (marks_of tree ks sheet) x (a, b)
     unfolding lookup_in
     whole-marks l h =
         let p = first (own x a b ks sheet a) whole in
         sym ((smallest-some (marks_of tree ks sheet) x a b a (measure_span tree p)).1 (omega arith, l, looked a p refl ∙ mark-some p (first_pos (own x a b ks sheet a) whole h), λ j u v. absurd (omega arith)))
 
     by_whole_lem : (w : ℕ) → whole ≡ w → a ≤ b → Distinct ks
-        → covered_of tree (by_whole w (least_in x (a, b) ks sheet) (Covered.At a (lookup_in ks sheet x (some a)))) ≡ smallest_covered (marks_of tree ks sheet) x (a, b)
+        → covered_of tree (by_whole w (least_in x (a, b) ks sheet) (Some (a, (lookup_in ks sheet x (some a))))) ≡ smallest_covered (marks_of tree ks sheet) x (a, b)
     by_whole_lem zero e l d = least-marks e l (least_in x (a, b) ks sheet) (least_is x a b ks sheet d)
     by_whole_lem (suc w) e l d = whole-marks l (omega arith)
 

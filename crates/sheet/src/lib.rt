@@ -13,14 +13,7 @@ ghost use Rattle.context.specs.View.{key_by, key_at, keys_in, place_in, marks_of
 ghost use Rattle.sheet.specs.Sheet.{Indexed, lookup_in, smaller, offer, least_in, smallest_in, Distinct, Covers, reaches, touches, measuring, stored, first};
 ghost use Rattle.sheet.specs.Behind.{Blank};
 
-use context::{Ends, GateOperand, Index, Number};
-
-// The smallest index of a slice that a mark covers, and the mark's place.
-#[derive(Clone, Copy)]
-pub enum Covered {
-    At(u64, u16),
-    None,
-}
+use context::{GateOperand, Index};
 
 // The two numbers of a key are those of another.
 fn same_key(head: u64, i: u64, other: u64, j: u64) -> bool
@@ -90,7 +83,7 @@ fn place_of(sheet: &[u16; 256], index: &Index, count: usize, head: u64, i: u64, 
 }
 
 // The place of the mark that covers a name, or an index of it; 0 where there is none.
-pub fn lookup(sheet: &[u16; 256], index: &Index, count: usize, x: usize, i: Number) -> u16
+pub fn lookup(sheet: &[u16; 256], index: &Index, count: usize, x: usize, i: Option<u64>) -> u16
     requires indexed { Indexed index.now count }
     requires distinct { Distinct (keys_in index.now count) }
     requires x_bound { x < 256 }
@@ -98,8 +91,8 @@ pub fn lookup(sheet: &[u16; 256], index: &Index, count: usize, x: usize, i: Numb
 {
     let whole = whole_head(x);
     match i {
-        Number::Some(j) => place_of(sheet, index, count, index_head(x), j, whole),
-        Number::None => place_of(sheet, index, count, whole, 0, whole),
+        Some(j) => place_of(sheet, index, count, index_head(x), j, whole),
+        None => place_of(sheet, index, count, whole, 0, whole),
     }
 }
 
@@ -126,34 +119,42 @@ fn is_index(head: u64, i: u64, j: u64) -> bool
 }
 
 // The whole key, or an index below the size.
-fn below_size(size: Number, head: u64, i: u64) -> bool
+fn below_size(size: Option<u64>, head: u64, i: u64) -> bool
     ensures { result ≡ below_size (number_of size) (key_by head i).index }
 {
     if head % 2 == 0 {
         return true;
     }
     match size {
-        Number::Some(n) => i < n,
-        Number::None => false,
+        Some(n) => i < n,
+        None => false,
     }
 }
 
-fn nearer(i: u64, place: u16, best: Covered) -> Covered
+fn nearer(i: u64, place: u16, best: Option<(u64, u16)>) -> Option<(u64, u16)>
     ensures { result ≡ smaller i place best }
 {
     match best {
-        Covered::At(j, q) => {
+        Some((j, q)) => {
             if i <= j {
-                return Covered::At(i, place);
+                return Some((i, place));
             }
-            Covered::At(j, q)
+            Some((j, q))
         }
-        Covered::None => Covered::At(i, place),
+        None => Some((i, place)),
     }
 }
 
 // The smallest index so far, key number k taken in where it is of the slice and has a place.
-fn offered(index: &Index, k: usize, x: usize, a: u64, b: u64, place: u16, best: Covered) -> Covered
+fn offered(
+    index: &Index,
+    k: usize,
+    x: usize,
+    a: u64,
+    b: u64,
+    place: u16,
+    best: Option<(u64, u16)>,
+) -> Option<(u64, u16)>
     requires { k < 256 }
     ensures { result ≡ cond (eqb (key_at index.now k).name x && in_slice (a, b) (key_at index.now k).index) (offer (key_at index.now k).index place best) best }
 {
@@ -172,11 +173,18 @@ fn offered(index: &Index, k: usize, x: usize, a: u64, b: u64, place: u16, best: 
 }
 
 // The smallest index of a slice whose own key is marked.
-fn least(sheet: &[u16; 256], index: &Index, count: usize, x: usize, a: u64, b: u64) -> Covered
+fn least(
+    sheet: &[u16; 256],
+    index: &Index,
+    count: usize,
+    x: usize,
+    a: u64,
+    b: u64,
+) -> Option<(u64, u16)>
     requires { Indexed index.now count }
     ensures { result ≡ least_in x (a, b) (keys_in index.now count) sheet.now }
 {
-    let mut best = Covered::None;
+    let mut best = None;
     let mut k = count;
     while 0 < k {
         k -= 1;
@@ -185,7 +193,7 @@ fn least(sheet: &[u16; 256], index: &Index, count: usize, x: usize, a: u64, b: u
     best
 }
 
-// The smallest index of a slice that a mark covers.
+// The smallest index of a slice that a mark covers, and the mark's place.
 pub fn smallest(
     sheet: &[u16; 256],
     index: &Index,
@@ -193,30 +201,37 @@ pub fn smallest(
     x: usize,
     a: u64,
     b: u64,
-) -> Covered
+) -> Option<(u64, u16)>
     requires indexed { Indexed index.now count }
     requires distinct { Distinct (keys_in index.now count) }
     requires x_bound { x < 256 }
     ensures { result ≡ smallest_in (keys_in index.now count) sheet.now x (a, b) }
 {
     if b < a {
-        return Covered::None;
+        return None;
     }
-    if lookup(sheet, index, count, x, Number::None) == 0 {
+    if lookup(sheet, index, count, x, None) == 0 {
         return least(sheet, index, count, x, a, b);
     }
-    Covered::At(a, lookup(sheet, index, count, x, Number::Some(a)))
+    Some((a, lookup(sheet, index, count, x, Some(a))))
 }
 
 // A measure of the operand sets the key, or a reset (all) clears it, where its name is the operand's.
-fn in_reach(slice: Ends, at: Number, size: Number, all: bool, head: u64, i: u64) -> bool
+fn in_reach(
+    slice: Option<(u64, u64)>,
+    at: Option<u64>,
+    size: Option<u64>,
+    all: bool,
+    head: u64,
+    i: u64,
+) -> bool
     ensures { result ≡ reaches all (number_of size) (ends_of slice) (number_of at) (key_by head i).index }
 {
     match slice {
-        Ends::Some(a, b) => within(head, i, a, b),
-        Ends::None => match at {
-            Number::Some(j) => is_index(head, i, j),
-            Number::None => {
+        Some((a, b)) => within(head, i, a, b),
+        None => match at {
+            Some(j) => is_index(head, i, j),
+            None => {
                 if all {
                     return true;
                 }
@@ -226,7 +241,7 @@ fn in_reach(slice: Ends, at: Number, size: Number, all: bool, head: u64, i: u64)
     }
 }
 
-fn touched(op: GateOperand, size: Number, all: bool, head: u64, i: u64) -> bool
+fn touched(op: GateOperand, size: Option<u64>, all: bool, head: u64, i: u64) -> bool
     ensures { result ≡ touches all (number_of size) (operand_of op) (key_by head i) }
 {
     let name = op.name;
@@ -243,7 +258,7 @@ fn store(
     index: &Index,
     count: usize,
     op: GateOperand,
-    size: Number,
+    size: Option<u64>,
     all: bool,
     place: u16,
 )
@@ -266,7 +281,7 @@ pub fn set(
     index: &Index,
     count: usize,
     op: GateOperand,
-    size: Number,
+    size: Option<u64>,
     place: u16,
 )
     requires sheet_len { length sheet.old ≡ 256 }
@@ -288,7 +303,7 @@ pub fn clear(sheet: &mut [u16; 256], index: &Index, count: usize, op: GateOperan
     ensures marks { (tree : List ℕ) (sp : Span) → marks_of tree (keys_in index.now count) sheet.new ≡ apply (clear_measured (operand_of op)) sp (marks_of tree (keys_in index.now count) sheet.old) }
     ensures behind { (n : ℕ) → count ≤ n → Blank n sheet.old → Blank n sheet.new }
 {
-    store(sheet, index, count, op, Number::None, true, 0);
+    store(sheet, index, count, op, None, true, 0);
 }
 
 // Both exits of a branch, into b: the marks of a, and where it has none those of b.

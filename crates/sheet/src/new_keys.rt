@@ -9,7 +9,7 @@ ghost use Rattle.context.specs.View.{key_by, keys_in};
 ghost use Rattle.sheet.specs.Sheet.{Indexed, position, KeysAdded};
 
 use crate::{index_head, same_key, whole_head};
-use context::{Ends, GateOperand, Number};
+use context::GateOperand;
 
 // More keys than there may be.
 pub const OVER: usize = 257;
@@ -102,7 +102,7 @@ fn add_slice(index: &mut [u64], count: usize, x: usize, a: u64, b: u64) -> usize
 }
 
 // The whole key, and each index below the size.
-fn add_whole(index: &mut [u64], count: usize, x: usize, size: Number) -> usize
+fn add_whole(index: &mut [u64], count: usize, x: usize, size: Option<u64>) -> usize
     requires indexed { Indexed index.old count }
     requires x_bound { x < 256 }
     ensures { KeysAdded index.old index.new result (add_range (add_key (keys_in index.old count) (key x none)) x 0 (or0 (number_of size))) }
@@ -112,13 +112,13 @@ fn add_whole(index: &mut [u64], count: usize, x: usize, size: Number) -> usize
         return OVER;
     }
     match size {
-        Number::Some(n) => add_range(index, c, x, 0, n),
-        Number::None => c,
+        Some(n) => add_range(index, c, x, 0, n),
+        None => c,
     }
 }
 
 // The keys that a measure of the operand sets, where its name shows a size; OVER where there is no room for all.
-pub fn add_measured(index: &mut [u64], count: usize, op: GateOperand, size: Number) -> usize
+pub fn add_measured(index: &mut [u64], count: usize, op: GateOperand, size: Option<u64>) -> usize
     requires indexed { Indexed index.old count }
     requires name_bound { op.name < 256 }
     ensures { KeysAdded index.old index.new result (add_measured (keys_in index.old count) op.name (number_of size) (ends_of op.slice) (number_of op.index)) }
@@ -127,10 +127,10 @@ pub fn add_measured(index: &mut [u64], count: usize, op: GateOperand, size: Numb
     let slice = op.slice;
     let at = op.index;
     match slice {
-        Ends::Some(a, b) => add_slice(index, count, x, a, b),
-        Ends::None => match at {
-            Number::Some(i) => add_key(index, count, index_head(x), i),
-            Number::None => add_whole(index, count, x, size),
+        Some((a, b)) => add_slice(index, count, x, a, b),
+        None => match at {
+            Some(i) => add_key(index, count, index_head(x), i),
+            None => add_whole(index, count, x, size),
         },
     }
 }

@@ -14,7 +14,7 @@ use Rattle.types.specs.Types.{number_of}
 use Rattle.tree.specs.Encode.{big}
 use Rattle.tree.specs.Fits.{NumberFits, OptionFits}
 use Rattle.sema.specs.Symbols.{Symbol, GateSig}
-use Rattle.context.specs.declared.Number.{Number}
+use Rattle.std.specs.Prelude.{Option as Maybe, Some, None}
 use Rattle.context.specs.Values.{number_of as size_of}
 use Rattle.tables.specs.Entries.{code_of, span_bytes, size_bytes, symbol_bytes, gate_bytes, type_bytes, function_bytes}
 use Rattle.tables.specs.Tables.{cleared}
@@ -37,17 +37,17 @@ length-size (some n) = refl
 pub headed : (s t u : List ℕ) (at b : ℕ) (xs : List ℕ) → t ≡ set s at b → u ≡ sets t (at + 1) xs → u ≡ sets s at (b ∷ xs)
 headed s t u at b xs e f = rw (add-one, e) at f
 
-pub size-stored : (s t u : List ℕ) (at n : ℕ) (z : Number) → z ≡ Number.Some n → t ≡ set s at 1 → u ≡ sets t (at + 1) (big 8 n) → u ≡ sets s at (size_bytes (size_of z))
+pub size-stored : (s t u : List ℕ) (at n : ℕ) (z : Maybe ℕ) → z ≡ Some n → t ≡ set s at 1 → u ≡ sets t (at + 1) (big 8 n) → u ≡ sets s at (size_bytes (size_of z))
 size-stored s t u at n z h e f = rw h (headed s t u at 1 (big 8 n) e f)
 
-pub no_size_stored : (s t u : List ℕ) (at : ℕ) (z : Number) → z ≡ Number.None → t ≡ set s at 0 → u ≡ sets t (at + 1) (big 8 0) → u ≡ sets s at (size_bytes (size_of z))
+pub no_size_stored : (s t u : List ℕ) (at : ℕ) (z : Maybe ℕ) → z ≡ None → t ≡ set s at 0 → u ≡ sets t (at + 1) (big 8 0) → u ≡ sets s at (size_bytes (size_of z))
 no_size_stored s t u at z h e f = rw h (headed s t u at 0 (big 8 0) e f)
 
-pub size_fits : (z : Number) (n : ℕ) → z ≡ Number.Some n → n < 18446744073709551616 → OptionFits (NumberFits 8) (size_of z)
+pub size_fits : (z : Maybe ℕ) (n : ℕ) → z ≡ Some n → n < 18446744073709551616 → OptionFits (NumberFits 8) (size_of z)
 unfolding OptionFits
 size_fits z n e h = rw e h
 
-pub no_size_fits : (z : Number) → z ≡ Number.None → OptionFits (NumberFits 8) (size_of z)
+pub no_size_fits : (z : Maybe ℕ) → z ≡ None → OptionFits (NumberFits 8) (size_of z)
 unfolding OptionFits
 no_size_fits z e = rw e tt
 

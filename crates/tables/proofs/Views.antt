@@ -12,11 +12,8 @@ use Rattle.span.specs.declared.Span.{Span}
 use Rattle.ast.specs.declared.ClassicalType.{ClassicalType}
 use Rattle.sema.specs.Messages.{Qubit}
 use Rattle.sema.specs.Symbols.{get, get_current}
-use Rattle.context.specs.declared.Number.{Number}
-use Rattle.context.specs.declared.FoundSymbol.{FoundSymbol}
-use Rattle.context.specs.declared.FoundGate.{FoundGate}
+use Rattle.std.specs.Prelude.{Option as Maybe, Some, None}
 use Rattle.context.specs.declared.GateSig.{GateSig as GateValue}
-use Rattle.context.specs.declared.FoundFunction.{FoundFunction}
 use Rattle.context.specs.declared.Symbol.{Symbol as SymbolValue}
 use Rattle.context.specs.Values.{kind_of, number_of, symbol_of, found_of, found_gate_of}
 use Rattle.context.specs.View.{number_at, span_at, span-from, type_of, symbol_size, kinds, size_by, symbol_by, symbol_at, code_place, symbol_place, scope_of, scopes_of, gate_place, gates_of, function_place, function_by, functions_of}
@@ -25,16 +22,16 @@ use Rattle.tables.specs.Tables.{brief_of, params_of}
 some-suc : (n : ℕ) → (n ≡ 0 → ⊥) → n ≡ suc (n - 1)
 some-suc n h = omega arith
 
-pub size_none : (s : List ℕ) (at n : ℕ) → get_or s at 0 ≡ 0 → number_of Number.None ≡ size_by (get_or s at 0) n
+pub size_none : (s : List ℕ) (at n : ℕ) → get_or s at 0 ≡ 0 → number_of None ≡ size_by (get_or s at 0) n
 size_none s at n e = rw e
 
-pub size-some : (s : List ℕ) (at m n : ℕ) → (get_or s at 0 ≡ 0 → ⊥) → m ≡ n → number_of (Number.Some m) ≡ size_by (get_or s at 0) n
+pub size-some : (s : List ℕ) (at m n : ℕ) → (get_or s at 0 ≡ 0 → ⊥) → m ≡ n → number_of (Some m) ≡ size_by (get_or s at 0) n
 size-some s at m n h e = rw (some-suc (get_or s at 0) h, e)
 
-pub symbol-none : (s : List ℕ) (level x : ℕ) → get_or s (code_place level x) 0 ≡ 0 → found_of FoundSymbol.None ≡ symbol_at s level x
+pub symbol-none : (s : List ℕ) (level x : ℕ) → get_or s (code_place level x) 0 ≡ 0 → found_of None ≡ symbol_at s level x
 symbol-none s level x e = rw e
 
-symbol-some : (s : List ℕ) (level x : ℕ) (v : SymbolValue) → (get_or s (code_place level x) 0 ≡ 0 → ⊥) → kind_of v.kind ≡ get_or kinds (get_or s (code_place level x) 0 - 1) Qubit → number_of v.size ≡ size_by (get_or s (symbol_place level x) 0) (number_at 8 s (symbol_place level x + 1)) → v.decl_span ≡ span_at s (symbol_place level x + 9) → found_of (FoundSymbol.Some v) ≡ symbol_at s level x
+symbol-some : (s : List ℕ) (level x : ℕ) (v : SymbolValue) → (get_or s (code_place level x) 0 ≡ 0 → ⊥) → kind_of v.kind ≡ get_or kinds (get_or s (code_place level x) 0 - 1) Qubit → number_of v.size ≡ size_by (get_or s (symbol_place level x) 0) (number_at 8 s (symbol_place level x + 1)) → v.decl_span ≡ span_at s (symbol_place level x + 9) → found_of (Some v) ≡ symbol_at s level x
 symbol-some s level x v h k z p =
     let code = get_or s (code_place level x) 0 in
     let q : symbol_at s level x ≡ symbol_by s (symbol_place level x) (suc (code - 1)) = ap (symbol_by s (symbol_place level x)) (some-suc code h) in
@@ -52,7 +49,7 @@ part-number w k n at s h = ap (value 0) (part-take k w n (drop at s) h ∙ ap (t
 
 -- the entry read as a part
 pub symbol-part : (s : List ℕ) (level x : ℕ) (v : SymbolValue) (e : List ℕ) → (get_or s (code_place level x) 0 ≡ 0 → ⊥) → kind_of v.kind ≡ get_or kinds (get_or s (code_place level x) 0 - 1) Qubit
-    → number_of v.size ≡ size_by (get_or e 0 0) (number_at 8 e 1) → v.decl_span ≡ span_at e 9 → (n : ℕ) → e ≡ take n (drop (symbol_place level x) s) → n ≡ symbol_size → found_of (FoundSymbol.Some v) ≡ symbol_at s level x
+    → number_of v.size ≡ size_by (get_or e 0 0) (number_at 8 e 1) → v.decl_span ≡ span_at e 9 → (n : ℕ) → e ≡ take n (drop (symbol_place level x) s) → n ≡ symbol_size → found_of (Some v) ≡ symbol_at s level x
 symbol-part s level x v e h k z p n q f =
     let at = symbol_place level x in
     let b : get_or e 0 0 ≡ get_or s at 0 = rw q (get_or-take n (drop at s) 0 0 (omega arith) ∙ get_or-drop at s 0 0 ∙ ap (λ (j : ℕ). get_or s j 0) (omega arith)) in
@@ -65,7 +62,7 @@ pub scope_at : (s : List ℕ) (level x : ℕ) → x < 256 → scope_of s level x
 unfolding scope_of
 scope_at s level x h = rw (lt-ltb x 256 h)
 
-pub current_at : (s : List ℕ) (depth x : ℕ) (r : FoundSymbol) → 0 < depth → x < 256 → found_of r ≡ symbol_at s (depth - 1) x → found_of r ≡ get_current (scopes_of s depth) x
+pub current_at : (s : List ℕ) (depth x : ℕ) (r : Maybe SymbolValue) → 0 < depth → x < 256 → found_of r ≡ symbol_at s (depth - 1) x → found_of r ≡ get_current (scopes_of s depth) x
 unfolding scopes_of get_current
 current_at s depth x r d h e =
     let n : depth ≡ suc (depth - 1) = omega arith in
@@ -80,7 +77,7 @@ pub seeking-start : (s : List ℕ) (depth x : ℕ) → Seeking s depth x depth
 seeking-start s depth x = record { within = omega arith; same = refl }
 
 module _ {s : List ℕ} {depth x left : ℕ} (r : Seeking s depth x left) where
-  pub seeking-found : (f : FoundSymbol) (v : SymbolValue) → 0 < left → x < 256 → found_of f ≡ symbol_at s (left - 1) x → f ≡ FoundSymbol.Some v → found_of (FoundSymbol.Some v) ≡ get (scopes_of s depth) x
+  pub seeking-found : (f : Maybe SymbolValue) (v : SymbolValue) → 0 < left → x < 256 → found_of f ≡ symbol_at s (left - 1) x → f ≡ Some v → found_of (Some v) ≡ get (scopes_of s depth) x
   unfolding scopes_of get
   seeking-found f v l h e g =
       let n : left ≡ suc (left - 1) = omega arith in
@@ -88,7 +85,7 @@ module _ {s : List ℕ} {depth x left : ℕ} (r : Seeking s depth x left) where
       let p : get (scopes_of s depth) x ≡ get (scopes_of s (suc (left - 1))) x = rw n at r.same in
       sym (p ∙ rw here)
 
-  pub seeking-more : (f : FoundSymbol) → 0 < left → x < 256 → found_of f ≡ symbol_at s (left - 1) x → f ≡ FoundSymbol.None → Seeking s depth x (left - 1)
+  pub seeking-more : (f : Maybe SymbolValue) → 0 < left → x < 256 → found_of f ≡ symbol_at s (left - 1) x → f ≡ None → Seeking s depth x (left - 1)
   unfolding scopes_of get
   seeking-more f l h e g =
       let n : left ≡ suc (left - 1) = omega arith in
@@ -96,15 +93,15 @@ module _ {s : List ℕ} {depth x left : ℕ} (r : Seeking s depth x left) where
       let p : get (scopes_of s depth) x ≡ get (scopes_of s (suc (left - 1))) x = rw n at r.same in
       record { within = omega (arith, r.within); same = p ∙ rw here }
 
-  pub seeking-end : left ≤ 0 → found_of FoundSymbol.None ≡ get (scopes_of s depth) x
+  pub seeking-end : left ≤ 0 → found_of None ≡ get (scopes_of s depth) x
   unfolding scopes_of get
   seeking-end h = let n : left ≡ 0 = omega arith in sym (rw n at r.same)
 
-pub gate-none : (s : List ℕ) (x : ℕ) → x < 256 → get_or s (gate_place x) 0 ≡ 0 → found_gate_of FoundGate.None ≡ gates_of s x
+pub gate-none : (s : List ℕ) (x : ℕ) → x < 256 → get_or s (gate_place x) 0 ≡ 0 → found_gate_of None ≡ gates_of s x
 unfolding gates_of
 gate-none s x h e = rw (lt-ltb x 256 h, e)
 
-pub gate-some : (s : List ℕ) (x : ℕ) (g : GateValue) → x < 256 → (get_or s (gate_place x) 0 ≡ 0 → ⊥) → g.param_count ≡ get_or s (gate_place x + 1) 0 → g.qubit_count ≡ get_or s (gate_place x + 2) 0 → g.decl_span ≡ span_at s (gate_place x + 3) → found_gate_of (FoundGate.Some g) ≡ gates_of s x
+pub gate-some : (s : List ℕ) (x : ℕ) (g : GateValue) → x < 256 → (get_or s (gate_place x) 0 ≡ 0 → ⊥) → g.param_count ≡ get_or s (gate_place x + 1) 0 → g.qubit_count ≡ get_or s (gate_place x + 2) 0 → g.decl_span ≡ span_at s (gate_place x + 3) → found_gate_of (Some g) ≡ gates_of s x
 unfolding gates_of
 gate-some s x g h n a b e = rw (lt-ltb x 256 h, some-suc (get_or s (gate_place x) 0) n, a, b, e)
 
@@ -113,10 +110,10 @@ pub function_at : (s : List ℕ) (x : ℕ) → x < 256 → functions_of s x ≡ 
 unfolding functions_of
 function_at s x h = rw (lt-ltb x 256 h)
 
-pub function_none : (s : List ℕ) (x : ℕ) → x < 256 → get_or s (function_place x) 0 ≡ 0 → FoundFunction.None ≡ brief_of (functions_of s x)
+pub function_none : (s : List ℕ) (x : ℕ) → x < 256 → get_or s (function_place x) 0 ≡ 0 → None ≡ brief_of (functions_of s x)
 function_none s x h e = rw (function_at s x h, e)
 
-pub function_some : (s : List ℕ) (x count : ℕ) (ty : ClassicalType) (sp : Span) → 65536 ≤ length s → x < 256 → (get_or s (function_place x) 0 ≡ 0 → ⊥) → count < 256 → ty ≡ type_of (get_or s (function_place x + 1) 0) → count ≡ get_or s (function_place x + 2) 0 → sp ≡ span_at s (function_place x + 3) → FoundFunction.Some (record { param_count = count; return_type = ty; decl_span = sp }) ≡ brief_of (functions_of s x)
+pub function_some : (s : List ℕ) (x count : ℕ) (ty : ClassicalType) (sp : Span) → 65536 ≤ length s → x < 256 → (get_or s (function_place x) 0 ≡ 0 → ⊥) → count < 256 → ty ≡ type_of (get_or s (function_place x + 1) 0) → count ≡ get_or s (function_place x + 2) 0 → sp ≡ span_at s (function_place x + 3) → Some (record { param_count = count; return_type = ty; decl_span = sp }) ≡ brief_of (functions_of s x)
 function_some s x count ty sp room h n small t c p =
     let at = function_place x in
     let long : count ≤ length (drop (at + 11) s) = rw length-drop (omega arith) in

@@ -6,7 +6,8 @@ use Rattle.span.specs.declared.Span.{Span}
 use Rattle.ast.specs.Tree.{TextNumber}
 use Rattle.ast.specs.declared.ClassicalType.{ClassicalType}
 use Rattle.sema.specs.Symbols.{Symbol, GateSig, FunctionSig, Table, Symbols, empty, insert, insert_current}
-use Rattle.context.specs.declared.FoundFunction.{FoundFunction}
+use Rattle.context.specs.declared.FunctionSig.{FunctionSig as FunctionValue}
+use Rattle.std.specs.Prelude.{Option as Maybe, Some, None}
 use Rattle.context.specs.View.{type_of, scopes_of, gates_of, functions_of}
 use Rattle.tables.specs.Entries.{type_bytes}
 
@@ -44,10 +45,10 @@ abbrev pub Begun : List ℕ → List ℕ → Type 0
 Begun s t = Becomes s t 1 (empty ∷ []) empty empty
 
 -- a function as it is found: the number of its parameters in place of their types
-abbrev pub brief_of : Option FunctionSig → FoundFunction
-brief_of none = FoundFunction.None
+abbrev pub brief_of : Option FunctionSig → Maybe FunctionValue
+brief_of none = None
 brief_of (some f) =
-    FoundFunction.Some (record { param_count = length f.params; return_type = f.return_type; decl_span = f.decl_span })
+    Some (record { param_count = length f.params; return_type = f.return_type; decl_span = f.decl_span })
 
 abbrev pub params_of : Option FunctionSig → List ClassicalType
 params_of none = []

@@ -18,7 +18,7 @@ ghost use Rattle.tables.specs.Tables.{Inserted, Entered, Begun, GateDefined, Fun
 use accepted::numbers::{span_at, u64_at};
 use ast::ClassicalType;
 use context::{
-    FoundFunction, FoundGate, FoundSymbol, FunctionSig, GateSig, Number, Symbol, SymbolKind,
+    FunctionSig, GateSig, Symbol, SymbolKind,
 };
 use span::Span;
 use text::wide;
@@ -128,47 +128,47 @@ fn kind_code(kind: SymbolKind) -> u8
     }
 }
 
-fn size_at(s: &[u8], at: usize) -> Number
+fn size_at(s: &[u8], at: usize) -> Option<u64>
     requires { at + 9 ≤ length s.now }
     ensures { size_of result ≡ size_by (get_or s.now at 0) (number_at 8 s.now (at + 1)) }
 {
     if s[at] == 0 {
-        return Number::None;
+        return None;
     }
-    Number::Some(u64_at(s, at + 1))
+    Some(u64_at(s, at + 1))
 }
 
-fn store_size(s: &mut [u8], at: usize, size: Number)
+fn store_size(s: &mut [u8], at: usize, size: Option<u64>)
     requires { at + 9 ≤ length s.old }
     ensures { (s.new ≡ sets s.old at (size_bytes (size_of size))) × OptionFits (NumberFits 8) (size_of size) }
 {
     match size {
-        Number::Some(n) => {
+        Some(n) => {
             put(s, at, 1);
             store(s, at + 1, 8, n);
         }
-        Number::None => {
+        None => {
             put(s, at, 0);
             store(s, at + 1, 8, 0);
         }
     }
 }
 
-fn symbol_at(s: &[u8], level: usize, x: usize) -> FoundSymbol
+fn symbol_at(s: &[u8], level: usize, x: usize) -> Option<Symbol>
     requires { (65536 ≤ length s.now) × (level < 9) × (x < 256) }
     ensures { found_of result ≡ symbol_at s.now level x }
 {
     let base = level * LEVEL;
     let code = s[base + x];
     if code == 0 {
-        return FoundSymbol::None;
+        return None;
     }
     let at = base + CODES + x * SYMBOL;
     let entry = &s[at..at + SYMBOL]; // from a part of its own, the compiler reads a number by one load
     let kind = kind_of(code);
     let size = size_at(entry, 0);
     let decl_span = span_at(entry, 9);
-    FoundSymbol::Some(Symbol {
+    Some(Symbol {
         kind,
         size,
         decl_span,
@@ -190,7 +190,7 @@ fn store_symbol(s: &mut [u8], level: usize, x: usize, sym: Symbol)
 }
 
 // The symbol of a name in the innermost scope that has one.
-pub fn get(scratch: &[u8], depth: usize, x: usize) -> FoundSymbol
+pub fn get(scratch: &[u8], depth: usize, x: usize) -> Option<Symbol>
     requires { (65536 ≤ length scratch.now) × (depth ≤ 9) × (x < 256) }
     ensures { found_of result ≡ get (scopes_of scratch.now depth) x }
 {
@@ -198,32 +198,32 @@ pub fn get(scratch: &[u8], depth: usize, x: usize) -> FoundSymbol
     while 0 < left {
         left -= 1;
         let found = symbol_at(scratch, left, x);
-        if let FoundSymbol::Some(sym) = found {
-            return FoundSymbol::Some(sym);
+        if let Some(sym) = found {
+            return Some(sym);
         }
     }
-    FoundSymbol::None
+    None
 }
 
 // The symbol of a name in the innermost scope. Most names have none there: the code is looked at before a symbol is read.
-pub fn get_current(scratch: &[u8], depth: usize, x: usize) -> FoundSymbol
+pub fn get_current(scratch: &[u8], depth: usize, x: usize) -> Option<Symbol>
     requires { (65536 ≤ length scratch.now) × (0 < depth) × (depth ≤ 9) × (x < 256) }
     ensures { found_of result ≡ get_current (scopes_of scratch.now depth) x }
 {
     let level = depth - 1;
     if scratch[level * LEVEL + x] == 0 {
-        return FoundSymbol::None;
+        return None;
     }
     symbol_at(scratch, level, x)
 }
 
 // The size of the symbol that a name shows.
-pub fn size_of(scratch: &[u8], depth: usize, x: usize) -> Number
+pub fn size_of(scratch: &[u8], depth: usize, x: usize) -> Option<u64>
     requires { (65536 ≤ length scratch.now) × (depth ≤ 9) × (x < 256) }
     ensures { size_of result ≡ sizeIn (get (scopes_of scratch.now depth) x) }
 {
-    let FoundSymbol::Some(symbol) = get(scratch, depth, x) else {
-        return Number::None;
+    let Some(symbol) = get(scratch, depth, x) else {
+        return None;
     };
     symbol.size
 }
@@ -249,18 +249,18 @@ pub fn enter(scratch: &mut [u8], depth: usize)
     }
 }
 
-pub fn gate(scratch: &[u8], x: usize) -> FoundGate
+pub fn gate(scratch: &[u8], x: usize) -> Option<GateSig>
     requires { (65536 ≤ length scratch.now) × (x < 256) }
     ensures { found_gate_of result ≡ gates_of scratch.now x }
 {
     let at = GATES + x * GATE;
     if scratch[at] == 0 {
-        return FoundGate::None;
+        return None;
     }
     let params = wide(scratch[at + 1]);
     let qubits = wide(scratch[at + 2]);
     let decl_span = span_at(scratch, at + 3);
-    FoundGate::Some(GateSig {
+    Some(GateSig {
         param_count: params,
         qubit_count: qubits,
         decl_span,
@@ -286,18 +286,18 @@ pub fn define_gate(scratch: &mut [u8], x: usize, sig: GateSig)
     store_gate(scratch, GATES + x * GATE, sig);
 }
 
-pub fn function(scratch: &[u8], x: usize) -> FoundFunction
+pub fn function(scratch: &[u8], x: usize) -> Option<FunctionSig>
     requires { (65536 ≤ length scratch.now) × (x < 256) }
     ensures { result ≡ brief_of (functions_of scratch.now x) }
 {
     let at = FUNCTIONS + x * FUNCTION;
     if scratch[at] == 0 {
-        return FoundFunction::None;
+        return None;
     }
     let return_type = type_of(scratch[at + 1]);
     let count = wide(scratch[at + 2]);
     let decl_span = span_at(scratch, at + 3);
-    FoundFunction::Some(FunctionSig {
+    Some(FunctionSig {
         param_count: count,
         return_type,
         decl_span,

@@ -4,8 +4,7 @@ use Rattle.std.specs.Prelude.{ℕ, ◌+◌, ◌*◌, ◌≡◌, refl, Bool, true
 use Rattle.ast.specs.declared.ClassicalType.{ClassicalType}
 use Rattle.ast.specs.declared.ClassicalType.TheVariants.{Int, UInt, Float, Angle}
 use Rattle.ast.specs.declared.ClassicalType.TheVariants as type
-use Rattle.types.specs.declared.Typed.{Typed}
-use Rattle.types.specs.declared.Typed.TheVariants.{«Type», None}
+use Rattle.std.specs.Prelude.{Option as Maybe, Some, None}
 
 -- the types in the order of the source
 abbrev pub types : List ClassicalType
@@ -57,10 +56,10 @@ abbrev pub larger : ClassicalType → ClassicalType → ClassicalType
 larger l r = cond (ltb (rank_of l) (rank_of r)) r l
 
 -- arithmetic on two numeric types has the larger one; on others no type
-unfoldable pub arithmetic_of : ClassicalType → ClassicalType → Typed
-arithmetic_of l r = cond (numeric l && numeric r) («Type» (larger l r)) None
+unfoldable pub arithmetic_of : ClassicalType → ClassicalType → Maybe ClassicalType
+arithmetic_of l r = cond (numeric l && numeric r) (Some (larger l r)) None
 
-int_and_uint : arithmetic_of UInt Int ≡ «Type» Int
+int_and_uint : arithmetic_of UInt Int ≡ Some Int
 unfolding arithmetic_of
 int_and_uint = refl
 

@@ -6,13 +6,6 @@ ghost use Rattle.types.specs.Types.{number_of, assignable_to, numeric, rank_of, 
 
 use ast::ClassicalType;
 
-// What an arithmetic expression has: a type, or none.
-#[derive(Clone, Copy)]
-pub enum Typed {
-    Type(ClassicalType),
-    None,
-}
-
 // Row the expected type, column the actual one, both in the order int, uint, float, angle, bool.
 const ASSIGNABLE: [[bool; 5]; 5] = [
     [true, false, false, false, false],
@@ -26,13 +19,7 @@ const ASSIGNABLE: [[bool; 5]; 5] = [
 pub fn number(ty: ClassicalType) -> usize
     ensures { (result ≡ number_of ty) × (result < 5) }
 {
-    match ty {
-        ClassicalType::Int => 0,
-        ClassicalType::UInt => 1,
-        ClassicalType::Float => 2,
-        ClassicalType::Angle => 3,
-        ClassicalType::Bool => 4,
-    }
+    ty as usize
 }
 
 pub fn assignable(expected: ClassicalType, actual: ClassicalType) -> bool
@@ -47,10 +34,8 @@ pub fn is_numeric(ty: ClassicalType) -> bool
     ensures { result ≡ numeric ty }
 {
     match ty {
-        ClassicalType::Int => true,
-        ClassicalType::UInt => true,
-        ClassicalType::Float => true,
-        ClassicalType::Angle => true,
+        ClassicalType::Int | ClassicalType::UInt | ClassicalType::Float | ClassicalType::Angle =>
+            true,
         ClassicalType::Bool => false,
     }
 }
@@ -59,25 +44,23 @@ fn rank(ty: ClassicalType) -> u8
     ensures { result ≡ rank_of ty }
 {
     match ty {
-        ClassicalType::UInt => 0,
+        ClassicalType::UInt | ClassicalType::Bool => 0,
         ClassicalType::Int => 1,
         ClassicalType::Float => 2,
         ClassicalType::Angle => 3,
-        ClassicalType::Bool => 0,
     }
 }
 
-pub fn arithmetic_type(lhs: ClassicalType, rhs: ClassicalType) -> Typed
+#[tactic(auto, unfolding(crate::specs::Types::arithmetic_of))]
+pub fn arithmetic_type(lhs: ClassicalType, rhs: ClassicalType) -> Option<ClassicalType>
     ensures { result ≡ arithmetic_of lhs rhs }
 {
-    if !is_numeric(lhs) {
-        return Typed::None;
-    }
-    if !is_numeric(rhs) {
-        return Typed::None;
+    if !is_numeric(lhs) || !is_numeric(rhs) {
+        return None;
     }
     if rank(lhs) < rank(rhs) {
-        return Typed::Type(rhs);
+        Some(rhs)
+    } else {
+        Some(lhs)
     }
-    Typed::Type(lhs)
 }

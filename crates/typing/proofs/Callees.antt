@@ -12,15 +12,14 @@ use borrow.Author.Tests.{eq-eqb, ne_eqb}
 use Rattle.span.specs.declared.Span.{Span}
 use Rattle.ast.specs.Tree.{Text}
 use Rattle.ast.specs.declared.ClassicalType.{ClassicalType}
-use Rattle.types.specs.declared.Typed.{Typed}
-use Rattle.types.specs.declared.Typed.TheVariants.{«Type», None}
+use Rattle.context.specs.declared.FunctionSig.{FunctionSig as FunctionValue}
+use Rattle.std.specs.Prelude.{Option as Maybe, Some, None}
 use Rattle.sema.specs.Messages
 use Rattle.sema.specs.Messages.{Diagnostic, error_with_note}
 use Rattle.sema.specs.Symbols.{FunctionSig}
 use Rattle.sema.specs.Operands.{unless}
 use Rattle.context.specs.declared.Sink.{Sink}
 use Rattle.context.specs.declared.FunctionSig.{FunctionSig as SigValue}
-use Rattle.context.specs.declared.FoundFunction.{FoundFunction}
 use Rattle.context.specs.Sink.{SinkFits}
 use Rattle.context.specs.Values.{typed_of}
 use Rattle.lines.specs.declared.Message.{Message}
@@ -46,13 +45,13 @@ module _ {t : List Text} {s : Sink} {o : List ℕ} where
     count-wrong z e p = unless_fails (eqb n params) (ne_eqb n params z) (rw e at p)
 
   -- the function by what was found
-  module _ (x n : ℕ) (sp : Span) {g : FoundFunction} {r : Sink} {o' : List ℕ} where
-    pub callee-missing : (f : Option FunctionSig) → g ≡ brief_of f → g ≡ FoundFunction.None → Emitted t (diagnostic_of (error_of (Message.FunctionNotDefined x) sp) ∷ []) s o r o' → CalleeOf t f x n sp s o (record { typed = None; params = 0; sink = r }) o'
+  module _ (x n : ℕ) (sp : Span) {g : Maybe FunctionValue} {r : Sink} {o' : List ℕ} where
+    pub callee-missing : (f : Option FunctionSig) → g ≡ brief_of f → g ≡ None → Emitted t (diagnostic_of (error_of (Message.FunctionNotDefined x) sp) ∷ []) s o r o' → CalleeOf t f x n sp s o (record { typed = None; params = 0; sink = r }) o'
     unfolding callee_type callee_says
     callee-missing none e h p = record { type = refl; params = refl; emitted = p }
     callee-missing (some f) e h p = let y : ◌≡◌ {A = ℕ} 0 1 = cc in absurd (omega arith)
 
-    pub callee-there : (f : Option FunctionSig) {sig : SigValue} → g ≡ brief_of f → g ≡ FoundFunction.Some sig → Emitted t (unless (eqb n sig.param_count) (error_with_note (Messages.function_arguments x sig.param_count n) sp Messages.function_defined sig.decl_span)) s o r o' → CalleeOf t f x n sp s o (record { typed = «Type» sig.return_type; params = sig.param_count; sink = r }) o'
+    pub callee-there : (f : Option FunctionSig) {sig : SigValue} → g ≡ brief_of f → g ≡ Some sig → Emitted t (unless (eqb n sig.param_count) (error_with_note (Messages.function_arguments x sig.param_count n) sp Messages.function_defined sig.decl_span)) s o r o' → CalleeOf t f x n sp s o (record { typed = Some sig.return_type; params = sig.param_count; sink = r }) o'
     unfolding callee_type callee_says
     callee-there none e h p = let y : ◌≡◌ {A = ℕ} 0 1 = cc in absurd (omega arith)
     callee-there (some f) {sig = sig} e h p =
@@ -60,7 +59,7 @@ module _ {t : List Text} {s : Sink} {o : List ℕ} where
         rw same (record { type = refl; params = refl; emitted = rw same at p })
 
   -- an argument against its parameter
-  module _ (x i : ℕ) (sp : Span) (ps : List ClassicalType) (u : Typed) where
+  module _ (x i : ℕ) (sp : Span) (ps : List ClassicalType) (u : Maybe ClassicalType) where
     pub argument_free : {n : ℕ} → n ≡ length ps → n ≤ i → SinkFits s → Emitted t (argument_at x i sp (drop i ps) (typed_of u)) s o s o
     unfolding argument_at
     argument_free e l f =

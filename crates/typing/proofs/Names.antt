@@ -14,10 +14,10 @@ use Rattle.sema.specs.Messages.{a_bit}
 use Rattle.sema.specs.Operands.{fits}
 use Rattle.sema.specs.Exprs.{Typing, ident_type, bit_index_type, index_type, check_expr}
 use Rattle.context.specs.declared.Sink.{Sink}
-use Rattle.context.specs.declared.Number.{Number}
+use Rattle.context.specs.declared.Symbol.{Symbol as SymbolValue}
+use Rattle.std.specs.Prelude.{Option as Maybe, Some, None}
 use Rattle.context.specs.declared.SymbolKind.{SymbolKind}
 use Rattle.context.specs.declared.Symbol.{Symbol}
-use Rattle.context.specs.declared.FoundSymbol.{FoundSymbol}
 use Rattle.context.specs.declared.Typing.{Typing as TypingValue}
 use Rattle.context.specs.Sink.{SinkFits}
 use Rattle.context.specs.Values.{kind_of, number_of, symbol_of, found_of}
@@ -80,16 +80,16 @@ module _ (x i : ℕ) (sp : Span) (v : Symbol) where
     pub index-other : {o' : List ℕ} → b ≡ false → Found t (refused (Message.NotIndexable x) sp) end s o r o' → Found t (index_type x i sp (symbol_of v) (kind_of v.kind)) end s o r o'
     index-other e p = rw (index-not v.kind (sym is ∙ e)) p
 
-    pub index_unsized : {o' : List ℕ} → b ≡ true → v.size ≡ Number.None → Found t (refused (Message.CannotIndexBit x) sp) end s o r o' → Found t (index_type x i sp (symbol_of v) (kind_of v.kind)) end s o r o'
+    pub index_unsized : {o' : List ℕ} → b ≡ true → v.size ≡ None → Found t (refused (Message.CannotIndexBit x) sp) end s o r o' → Found t (index_type x i sp (symbol_of v) (kind_of v.kind)) end s o r o'
     unfolding bit_index_type
     index_unsized e z p = rw (index_of v.kind (sym is ∙ e), z) p
 
     module _ {n : ℕ} where
-      pub index-inside : b ≡ true → v.size ≡ Number.Some n → i < n → SinkFits s → r ≡ has_type ClassicalType.Int end s → Found t (index_type x i sp (symbol_of v) (kind_of v.kind)) end s o r o
+      pub index-inside : b ≡ true → v.size ≡ Some n → i < n → SinkFits s → r ≡ has_type ClassicalType.Int end s → Found t (index_type x i sp (symbol_of v) (kind_of v.kind)) end s o r o
       unfolding bit_index_type
       index-inside e z l f h = rw (index_of v.kind (sym is ∙ e), z, lt-ltb i n l) (found-typed f h)
 
-      pub index-beyond : {o' : List ℕ} → b ≡ true → v.size ≡ Number.Some n → n ≤ i → Found t (refused (Message.IndexOutOfBounds i x n) sp) end s o r o' → Found t (index_type x i sp (symbol_of v) (kind_of v.kind)) end s o r o'
+      pub index-beyond : {o' : List ℕ} → b ≡ true → v.size ≡ Some n → n ≤ i → Found t (refused (Message.IndexOutOfBounds i x n) sp) end s o r o' → Found t (index_type x i sp (symbol_of v) (kind_of v.kind)) end s o r o'
       unfolding bit_index_type
       index-beyond e z l p = rw (index_of v.kind (sym is ∙ e), z, le-ltb i n l) p
 
@@ -101,22 +101,22 @@ module _ (ss : Symbols) (fs : Table FunctionSig) (y : ℕ) (sp : Span) where
   abbrev index_by : ℕ → Option Declared → Typing
   index_by j f = elim f [ none ↦ refused (Message.NotDeclared y) sp | some v ↦ index_type y j sp v v.kind ]
 
-  ident_is : (f : FoundSymbol) → found_of f ≡ get ss y → check_expr ss fs (Expr.Ident y sp) ≡ ident_by (found_of f)
+  ident_is : (f : Maybe SymbolValue) → found_of f ≡ get ss y → check_expr ss fs (Expr.Ident y sp) ≡ ident_by (found_of f)
   unfolding check_expr
   ident_is f g = ap ident_by (sym g)
 
-  index_is : (j : ℕ) (f : FoundSymbol) → found_of f ≡ get ss y → check_expr ss fs (Expr.Index y j sp) ≡ index_by j (found_of f)
+  index_is : (j : ℕ) (f : Maybe SymbolValue) → found_of f ≡ get ss y → check_expr ss fs (Expr.Index y j sp) ≡ index_by j (found_of f)
   unfolding check_expr
   index_is j f g = ap (index_by j) (sym g)
 
-module _ (ss : Symbols) (fs : Table FunctionSig) {t : List Text} {x y : ℕ} {sp sp' : Span} {end : ℕ} {s : Sink} {o : List ℕ} {r : TypingValue} {o' : List ℕ} (f : FoundSymbol) (g : found_of f ≡ get ss x) (same : x ≡ y) (at : sp ≡ sp') where
-  pub ident-missing : f ≡ FoundSymbol.None → Found t (refused (Message.NotDeclared x) sp) end s o r o' → Found t (check_expr ss fs (Expr.Ident y sp')) end s o r o'
+module _ (ss : Symbols) (fs : Table FunctionSig) {t : List Text} {x y : ℕ} {sp sp' : Span} {end : ℕ} {s : Sink} {o : List ℕ} {r : TypingValue} {o' : List ℕ} (f : Maybe SymbolValue) (g : found_of f ≡ get ss x) (same : x ≡ y) (at : sp ≡ sp') where
+  pub ident-missing : f ≡ None → Found t (refused (Message.NotDeclared x) sp) end s o r o' → Found t (check_expr ss fs (Expr.Ident y sp')) end s o r o'
   ident-missing e p = rw (← same, ← at, ident_is ss fs x sp f g, e) p
 
-  pub index-missing : {i j : ℕ} → i ≡ j → f ≡ FoundSymbol.None → Found t (refused (Message.NotDeclared x) sp) end s o r o' → Found t (check_expr ss fs (Expr.Index y j sp')) end s o r o'
+  pub index-missing : {i j : ℕ} → i ≡ j → f ≡ None → Found t (refused (Message.NotDeclared x) sp) end s o r o' → Found t (check_expr ss fs (Expr.Index y j sp')) end s o r o'
   index-missing {i = i} h e p = rw (← same, ← at, ← h, index_is ss fs x sp i f g, e) p
 
-  module _ {v : Symbol} (e : f ≡ FoundSymbol.Some v) where
+  module _ {v : Symbol} (e : f ≡ Some v) where
     pub ident-there : Found t (ident_type x sp (kind_of v.kind)) end s o r o' → Found t (check_expr ss fs (Expr.Ident y sp')) end s o r o'
     ident-there p = rw (← same, ← at, ident_is ss fs x sp f g, e) p
 

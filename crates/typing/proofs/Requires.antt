@@ -7,8 +7,7 @@ use mathlib.Core.Option.{none, some}
 use Rattle.span.specs.declared.Span.{Span}
 use Rattle.ast.specs.Tree.{Text}
 use Rattle.ast.specs.declared.ClassicalType.{ClassicalType}
-use Rattle.types.specs.declared.Typed.{Typed}
-use Rattle.types.specs.declared.Typed.TheVariants.{«Type», None}
+use Rattle.std.specs.Prelude.{Option as Maybe, Some, None}
 use Rattle.tree.specs.Ans.{IsOk}
 use Rattle.tree.specs.Stmts.{held}
 use Rattle.sema.specs.Symbols.{Symbols, FunctionSig, Table}
@@ -44,11 +43,11 @@ unmet-some (Wanted.Numeric message) sp a = refl
 unmet-some (Wanted.Argument expected i x) sp a = refl
 
 -- no type, a type as it is wanted, or another one
-module _ {t : List Text} {s : Sink} {o : List ℕ} (w : Wanted) (sp : Span) {u : Typed} where
+module _ {t : List Text} {s : Sink} {o : List ℕ} (w : Wanted) (sp : Span) {u : Maybe ClassicalType} where
   pub wanted_absent : u ≡ None → SinkFits s → Emitted t (unmet w sp (typed_of u)) s o s o
   wanted_absent e f = rw (e, unmet-none w sp) (emitted-none f)
 
-  module _ {a : ClassicalType} (e : u ≡ «Type» a) {b : Bool} (g : b ≡ meets w a) where
+  module _ {a : ClassicalType} (e : u ≡ Some a) {b : Bool} (g : b ≡ meets w a) where
     pub wanted_right : b ≡ true → SinkFits s → Emitted t (unmet w sp (typed_of u)) s o s o
     wanted_right c f = rw (e, unmet-some w sp a, ← g) (unless_holds b _ c f)
 

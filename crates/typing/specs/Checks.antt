@@ -4,8 +4,7 @@ use Rattle.std.proofs.Math.Option.{Option, none, some}
 use Rattle.span.specs.declared.Span.{Span}
 use Rattle.ast.specs.Tree.{Text, TextNumber, Expr}
 use Rattle.ast.specs.declared.ClassicalType.{ClassicalType}
-use Rattle.types.specs.declared.Typed.{Typed}
-use Rattle.types.specs.declared.Typed.TheVariants.{«Type», None}
+use Rattle.std.specs.Prelude.{Option as Maybe, Some, None}
 use Rattle.types.specs.Types.{number_of, assignable_to, numeric, arithmetic_of}
 use Rattle.sema.specs.Messages
 use Rattle.sema.specs.Messages.{Diagnostic, error, error_with_note}
@@ -37,7 +36,7 @@ pub record Found (t : List Text) (ty : Typing) (end : ℕ) (s : Sink) (o : List 
 
 -- a type and nothing said
 abbrev pub has_type : ClassicalType → ℕ → Sink → TypingValue
-has_type ty next s = record { typed = «Type» ty; next = next; sink = s }
+has_type ty next s = record { typed = Some ty; next = next; sink = s }
 
 -- types that a comparison takes
 abbrev pub comparable : ClassicalType → ClassicalType → Bool
@@ -48,8 +47,8 @@ unfoldable pub operation_type : ℕ → Span → Option ClassicalType → Option
 operation_type c sp l r = cond (eqb c 8) (arithmetic_type sp l r) (compare_type sp l r)
 
 -- its type on two types, and what is said where there is none
-abbrev pub pair_type : ℕ → ClassicalType → ClassicalType → Typed
-pair_type c l r = cond (eqb c 8) (arithmetic_of l r) (cond (comparable l r) («Type» ClassicalType.Bool) None)
+abbrev pub pair_type : ℕ → ClassicalType → ClassicalType → Maybe ClassicalType
+pair_type c l r = cond (eqb c 8) (arithmetic_of l r) (cond (comparable l r) (Some ClassicalType.Bool) None)
 
 abbrev pub pair_message : ℕ → Message
 pair_message c = cond (eqb c 8) Message.ArithmeticNumeric Message.ComparisonTypes

@@ -12,10 +12,9 @@ ghost use Rattle.typing.specs.Checks.{CalleeOf, argument_at};
 
 use crate::demands::check_wanted;
 use crate::{Callee, Wanted};
-use context::{FoundFunction, FunctionSig, Index, Sink, Typing};
+use context::{FunctionSig, Index, Sink, Typing};
 use lines::{Message, Note, error, error_with_note};
 use span::Span;
-use types::Typed;
 
 // So many arguments against the parameters of a function that is defined.
 fn count_arguments(
@@ -64,7 +63,7 @@ pub fn check_callee(
     requires { TextsAt tree.now index.now × (65536 ≤ length scratch.now) × SinkFits sink × (x < length (texts_of tree.now)) }
     ensures { CalleeOf (texts_of tree.now) (functions_of scratch.now x) x n span sink out.old result out.new }
 {
-    let FoundFunction::Some(sig) = tables::function(scratch, x) else {
+    let Some(sig) = tables::function(scratch, x) else {
         let said = lines::report(
             out,
             sink,
@@ -73,7 +72,7 @@ pub fn check_callee(
             error(Message::FunctionNotDefined(x), span),
         );
         return Callee {
-            typed: Typed::None,
+            typed: None,
             params: 0,
             sink: said,
         };
@@ -81,7 +80,7 @@ pub fn check_callee(
     let said = count_arguments(tree, index, out, x, n, sig, span, sink);
     let ty = sig.return_type;
     Callee {
-        typed: Typed::Type(ty),
+        typed: Some(ty),
         params: sig.param_count,
         sink: said,
     }

@@ -11,16 +11,15 @@ ghost use Rattle.typing.specs.Checks.{Checkable, Found, has_type, comparable, op
 
 use accepted::numbers::{span_at, u16_at, u64_at};
 use ast::ClassicalType;
-use context::{FoundSymbol, Index, Number, Sink, Symbol, SymbolKind, Typing};
+use context::{Index, Sink, Symbol, SymbolKind, Typing};
 use lines::{Message, error};
 use span::Span;
-use types::Typed;
 
 pub fn has_type(ty: ClassicalType, next: usize, sink: Sink) -> Typing
     ensures { result ≡ has_type ty next sink }
 {
     Typing {
-        typed: Typed::Type(ty),
+        typed: Some(ty),
         next,
         sink,
     }
@@ -41,7 +40,7 @@ fn refuse(
 {
     let after = lines::report(out, sink, tree, index, error(message, span));
     Typing {
-        typed: Typed::None,
+        typed: None,
         next,
         sink: after,
     }
@@ -94,7 +93,7 @@ pub fn check_ident(
     let x = u16_at(tree, at + 1);
     let span = span_at(tree, at + 3);
     let next = at + 11;
-    let FoundSymbol::Some(symbol) = tables::get(scratch, depth, x) else {
+    let Some(symbol) = tables::get(scratch, depth, x) else {
         return refuse(tree, index, out, sink, Message::NotDeclared(x), span, next);
     };
     let kind = symbol.kind;
@@ -121,7 +120,7 @@ fn index_type(
         return refuse(tree, index, out, sink, Message::NotIndexable(x), span, next);
     }
     let size = symbol.size;
-    let Number::Some(n) = size else {
+    let Some(n) = size else {
         return refuse(
             tree,
             index,
@@ -162,7 +161,7 @@ pub fn check_index(
     let i = u64_at(tree, at + 3);
     let span = span_at(tree, at + 11);
     let next = at + 19;
-    let FoundSymbol::Some(symbol) = tables::get(scratch, depth, x) else {
+    let Some(symbol) = tables::get(scratch, depth, x) else {
         return refuse(tree, index, out, sink, Message::NotDeclared(x), span, next);
     };
     index_type(tree, index, out, x, i, span, symbol, next, sink)
@@ -176,9 +175,9 @@ pub fn negation(tree: &[u8], index: &Index, out: &mut [u8], t: Typing) -> Typing
     let next = t.next + 8;
     let sink = t.sink;
     let found = t.typed;
-    let Typed::Type(ty) = found else {
+    let Some(ty) = found else {
         return Typing {
-            typed: Typed::None,
+            typed: None,
             next,
             sink,
         };
@@ -203,16 +202,16 @@ fn comparable(a: ClassicalType, b: ClassicalType) -> bool
 }
 
 // The type of an operation on two types, by its case byte: none where they do not go together.
-fn pair_type(case: u8, a: ClassicalType, b: ClassicalType) -> Typed
+fn pair_type(case: u8, a: ClassicalType, b: ClassicalType) -> Option<ClassicalType>
     ensures { result ≡ pair_type case a b }
 {
     if case == 8 {
         return types::arithmetic_type(a, b);
     }
     if comparable(a, b) {
-        return Typed::Type(ClassicalType::Bool);
+        return Some(ClassicalType::Bool);
     }
-    Typed::None
+    None
 }
 
 fn pair_message(case: u8) -> Message
@@ -230,7 +229,7 @@ pub fn operation(
     index: &Index,
     out: &mut [u8],
     case: u8,
-    l: Typed,
+    l: Option<ClassicalType>,
     t: Typing,
 ) -> Typing
     requires { TextsAt tree.now index.now × SinkFits t.sink × (t.next + 8 ≤ length tree.now) }
@@ -238,23 +237,23 @@ pub fn operation(
 {
     let next = t.next + 8;
     let sink = t.sink;
-    let Typed::Type(a) = l else {
+    let Some(a) = l else {
         return Typing {
-            typed: Typed::None,
+            typed: None,
             next,
             sink,
         };
     };
     let found = t.typed;
-    let Typed::Type(b) = found else {
+    let Some(b) = found else {
         return Typing {
-            typed: Typed::None,
+            typed: None,
             next,
             sink,
         };
     };
     let result = pair_type(case, a, b);
-    let Typed::Type(ty) = result else {
+    let Some(ty) = result else {
         let message = pair_message(case);
         let span = span_at(tree, t.next);
         return refuse(tree, index, out, sink, message, span, next);

@@ -12,7 +12,6 @@ use accepted::numbers::span_at;
 use ast::ClassicalType;
 use context::{Index, Sink, Typing};
 use lines::{Message, error};
-use types::Typed;
 
 fn meets(wanted: Wanted, actual: ClassicalType) -> bool
     ensures { result ≡ meets wanted actual }
@@ -43,7 +42,7 @@ pub fn check_wanted(tree: &[u8], index: &Index, out: &mut [u8], wanted: Wanted, 
     let tree = &tree[..];
     let sink = t.sink;
     let found = t.typed;
-    let Typed::Type(actual) = found else {
+    let Some(actual) = found else {
         return sink;
     };
     if meets(wanted, actual) {

@@ -27,12 +27,11 @@ use ast::ClassicalType;
 use context::{After, Index, Sink, Typing};
 use lines::{Message, Place, error};
 use text::wide;
-use types::Typed;
 
 // The function of a call: the call's type, the number of parameters, and the listing after what is said of the function.
 #[derive(Clone, Copy)]
 struct Callee {
-    typed: Typed,
+    typed: Option<ClassicalType>,
     params: usize,
     sink: Sink,
 }
