@@ -231,7 +231,7 @@ pub fn use_operands(
             k += 20;
         } else {
             let r = operand_at(tree, k);
-            let op = r.operand;
+            let op = r.value;
             s = use_operand(tree, index, scratch, out, depth, keys, marks, op, span, s);
             k = r.next;
         }
@@ -256,7 +256,7 @@ fn register_widths(tree: &[u8], scratch: &[u8], depth: usize, at: usize) -> Widt
             k += 20;
         } else {
             let r = operand_at(tree, k);
-            let op = r.operand;
+            let op = r.value;
             let width = operand_width(scratch, depth, op);
             met = widths::meet(met, width);
             k = r.next;

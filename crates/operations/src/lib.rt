@@ -162,7 +162,7 @@ pub fn reset(
     ensures behind { (n : ℕ) → keys ≤ n → Blank n marks.old → Blank n marks.new }
 {
     let r = operand_at(tree, at + 1);
-    let op = r.operand;
+    let op = r.value;
     let said = operands::check_operand(
         tree,
         index,
@@ -217,7 +217,7 @@ pub fn measure(
     ensures behind { (n : ℕ) → keys ≤ n → Blank n marks.old → Blank n marks.new }
 {
     let q = operand_at(tree, at + 1);
-    let qubit = q.operand;
+    let qubit = q.value;
     let k = q.next;
     let a = check_measure(
         tree,

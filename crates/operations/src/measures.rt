@@ -118,7 +118,7 @@ fn check_target_at(
         return After { next: at + 1, sink };
     }
     let t = operand_at(tree, at + 1);
-    let target = t.operand;
+    let target = t.value;
     let next = t.next;
     let span = span_at(tree, next);
     let s = check_target(tree, index, scratch, out, depth, qubit, target, span, sink);

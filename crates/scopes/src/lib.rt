@@ -72,7 +72,7 @@ fn register(tree: &[u8], at: usize, left: usize) -> Declaration
     let kind = register_kind(tree[at]);
     let name = u16_at(tree, at + 1);
     let n = number_at(tree, at + 3);
-    let size = n.number;
+    let size = n.value;
     let k = n.next;
     let decl_span = span_at(tree, k);
     Declaration {

@@ -5,10 +5,10 @@ use Rattle.typing.proofs.cases.negation.Statement.{statement}
 use Rattle.typing.proofs.cases.negation.Tie as tie
 
 returns-2 : tie.Need-returns-then-is_numeric
-returns-2 c = neg-typed c.requires.1 _ c.in-Type.is c.is_numeric.ensures c.if-is_numeric.true c.has_type.ensures
+returns-2 c = neg-typed c.requires.1 _ c.in-Some.is c.is_numeric.ensures c.if-is_numeric.true c.has_type.ensures
 
 returns-3 : tie.Need-returns
-returns-3 c = neg-refused c.span_at-span.ensures c.in-Type.is c.is_numeric.ensures c.if-is_numeric.false c.refuse.ensures
+returns-3 c = neg-refused c.span_at-span.ensures c.in-Some.is c.is_numeric.ensures c.if-is_numeric.false c.refuse.ensures
 
 pub negation_spec : {M : Type 1} → statement M
 negation_spec =

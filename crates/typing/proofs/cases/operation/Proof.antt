@@ -8,16 +8,16 @@ returns : tie.Need-returns-in_default
 returns c = operation-left c.requires.1 _ _ c.args.t.typed c.in_default.is
 
 returns-2 : tie.Need-returns-in_default-found
-returns-2 c = operation-right c.requires.1 _ _ c.in-Type.is c.in_default-found.is
+returns-2 c = operation-right c.requires.1 _ _ c.in-Some.is c.in_default-found.is
 
 refuse-requires : tie.Need-refuse-requires
 refuse-requires c κs = let p = c.requires in (p.0, p.1, pair_named c.args.case _ c.pair_message-message.ensures)
 
 returns-3 : tie.Need-returns-in_default-result
-returns-3 c = operation-refused c.span_at-span.ensures _ c.in-Type.is c.in-Type-found.is c.pair_type-result.ensures c.in_default-result.is c.pair_message-message.ensures c.refuse.ensures
+returns-3 c = operation-refused c.span_at-span.ensures _ c.in-Some.is c.in-Some-found.is c.pair_type-result.ensures c.in_default-result.is c.pair_message-message.ensures c.refuse.ensures
 
 returns-4 : tie.Need-returns
-returns-4 c = operation-typed c.requires.1 _ _ c.in-Type.is c.in-Type-found.is c.pair_type-result.ensures c.in-Type-result.is c.has_type.ensures
+returns-4 c = operation-typed c.requires.1 _ _ c.in-Some.is c.in-Some-found.is c.pair_type-result.ensures c.in-Some-result.is c.has_type.ensures
 
 pub operation_spec : {M : Type 1} → statement M
 operation_spec =

@@ -6,13 +6,13 @@ use Rattle.typing.proofs.demands.check_wanted.Statement.{statement}
 use Rattle.typing.proofs.demands.check_wanted.Tie as tie
 
 returns-2 : tie.Need-returns-then-meets
-returns-2 c = wanted_right _ _ c.in-Type.is c.meets.ensures c.if-meets.true c.requires.1
+returns-2 c = wanted_right _ _ c.in-Some.is c.meets.ensures c.if-meets.true c.requires.1
 
 report-requires : tie.Need-report-requires
 report-requires c κs = let p = c.requires in let e = c.complaint.ensures in (p.0, error-fits c.error.ensures (rw e (p.2 _)), p.1)
 
 returns-3 : tie.Need-returns
-returns-3 c = wanted_wrong _ _ c.in-Type.is c.meets.ensures c.if-meets.false c.span_at-span.ensures c.complaint.ensures c.error.ensures c.report.ensures
+returns-3 c = wanted_wrong _ _ c.in-Some.is c.meets.ensures c.if-meets.false c.span_at-span.ensures c.complaint.ensures c.error.ensures c.report.ensures
 
 pub check_wanted_spec : {M : Type 1} → statement M
 check_wanted_spec =
