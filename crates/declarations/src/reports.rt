@@ -16,7 +16,7 @@ ghost use Rattle.declarations.specs.Says.{declared_says, code_says, spanned, tar
 
 use accepted::numbers::span_at;
 use ast::ClassicalType;
-use context::{Index, Sink, SymbolKind, Typing};
+use context::{Index, Sink, Symbol, SymbolKind, Typing};
 use lines::{Message, Note, error, error_with_note};
 use span::Span;
 

@@ -21,6 +21,6 @@ add_keys_spec =
     (λ c. let i = stmt_in _ _ _ _ c.requires.0 in omega arith)  -- add-operand-at
     (λ c κs. let p = c.requires in measure-qubit _ _ _ _ p.0 p.5)  -- operand-at-requires
     (λ c. search rules)  -- sub-size-of
-    (λ c κs. let i = operand_below _ _ _ c.operand_at-o.result.operand c.operand_at-o.ensures in (c.requires.3, omega arith, omega arith))  -- size-of-requires
+    (λ c κs. let i = operand_below _ _ _ c.operand_at-o.result.value c.operand_at-o.ensures in (c.requires.3, omega arith, omega arith))  -- size-of-requires
     (λ c κs. let o = c.operand_at-o in let i = operand_below _ _ _ o.result.operand o.ensures in (c.requires.4, omega arith))  -- add-measured-requires
     returns)

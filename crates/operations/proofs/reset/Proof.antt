@@ -17,7 +17,7 @@ reset_spec =
     (λ c. let s = c in let i = stmt_in _ _ _ _ s.requires.2 in omega arith)  -- add-operand-at
     (λ c κs. let s = c in reset_target _ _ _ _ s.requires.2 s.requires.4)  -- operand-at-requires
     (λ c. search rules)  -- sub-check-operand
-    (λ c κs. let s = c in (s.requires.0.texts, s.requires.1.room, search rules, operand_below _ _ _ c.operand_at-r.result.operand c.operand_at-r.ensures, s.requires.1.fits))  -- check-operand-requires
+    (λ c κs. let s = c in (s.requires.0.texts, s.requires.1.room, search rules, operand_below _ _ _ c.operand_at-r.result.value c.operand_at-r.ensures, s.requires.1.fits))  -- check-operand-requires
     (λ c κs. let s = c in (s.requires.1.placed.whole, s.requires.0.indexed))  -- clear-requires
     (λ c. let s = c in let i = reset-inside _ _ _ _ s.requires.2 s.requires.4 _ (sym (next_is c.operand_at-r.ensures)) in omega arith)  -- add-t13
     (λ c. search rules)  -- same-length

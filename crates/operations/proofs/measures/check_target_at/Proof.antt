@@ -16,6 +16,6 @@ check_target_at_spec =
     (λ c. let i = option_in _ _ _ c.requires.5 in omega arith)  -- add-operand-at
     (λ c κs. option-held _ _ _ c.requires.5 c.if-tree-at-eq0.false)  -- operand-at-requires
     (λ c κs. let a = c.operand_at-t in let e = target_end _ _ _ c.requires.5 c.if-tree-at-eq0.false a.result.operand _ a.ensures in omega arith)  -- span-at-requires
-    (λ c κs. let p = c.requires in (p.0, p.1, p.2, p.3, operand_below _ _ _ c.operand_at-t.result.operand c.operand_at-t.ensures, p.4))  -- check-target-requires
+    (λ c κs. let p = c.requires in (p.0, p.1, p.2, p.3, operand_below _ _ _ c.operand_at-t.result.value c.operand_at-t.ensures, p.4))  -- check-target-requires
     (λ c. search rules)  -- same-length
     (λ c. let a = c.operand_at-t in target_some _ _ _ c.requires.5 c.if-tree-at-eq0.false a.result.operand _ a.ensures _ _ c.span_at-span.ensures c.check_target-s.ensures))  -- returns-2
