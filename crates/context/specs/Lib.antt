@@ -1,4 +1,5 @@
 pub mod Values
 pub mod Sink
 pub mod View
+pub mod Given
 pub mod Kept

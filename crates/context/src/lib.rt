@@ -1,12 +1,15 @@
 // The values that the walk over a tree passes around, as the code holds them.
 #![tactic(auto)]
 
+mod sema_context;
+
 ghost use Rattle.std.specs.Prelude.{◌≡◌};
 ghost use Rattle.sema.specs.Messages.{a_bit};
 ghost use Rattle.sema.specs.Operands.{fits};
 ghost use Rattle.context.specs.Values.{kind_of};
 
 use ast::ClassicalType;
+pub use sema_context::SemaContext;
 use span::Span;
 
 // The places of the texts, then two numbers for each key.

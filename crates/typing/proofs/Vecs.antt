@@ -13,6 +13,7 @@ use Rattle.sema.specs.Messages.{Diagnostic}
 use Rattle.sema.specs.Symbols.{Symbols, FunctionSig, Table}
 use Rattle.sema.specs.Exprs.{check_modifier, check_modifiers, require_numeric}
 use Rattle.sema.specs.Stmts.{params_say}
+use native.Mathlib.Omega.{arith}
 use Rattle.context.specs.declared.Sink.{Sink}
 use Rattle.context.specs.declared.After.{After}
 use Rattle.context.specs.Sink.{SinkFits}
@@ -35,6 +36,14 @@ module _ {A B : Type 0} {nil : B} {cons : A → B → B} {p : Reader A} (says : 
     remains = remains-start nil cons p tree at n h e;
     owes = owes_as (owes-start f) (given_ok nil [] says (counted nil cons p tree at) h ∙ rw (e, ← counted_is tree at nil cons p h));
   }
+
+  -- where none was gone through yet
+  pub saying-none : {n : ℕ} → IsOk (counted nil cons p tree at) → n ≡ get_or tree at 0 → SinkFits s₀ → Saying nil cons p says t tree at s₀ o₀ (n - 0) (at + 1) s₀ o₀
+  saying-none h e f = saying-start h (omega (arith, e)) f
+
+  -- where one more was
+  pub saying-on : (n i : ℕ) {k : ℕ} {s : Sink} {o : List ℕ} → Saying nil cons p says t tree at s₀ o₀ (n - i - 1) k s o → Saying nil cons p says t tree at s₀ o₀ (n - (i + 1)) k s o
+  saying-on n i r = let q : n - (i + 1) ≡ n - i - 1 = omega arith in rw q r
 
   module _ {n k : ℕ} {s : Sink} {o : List ℕ} (r : Saying nil cons p says t tree at s₀ o₀ n k s o) where
     pub saying-first : 0 < n → IsOk (p tree k)

@@ -1,5 +1,5 @@
 -- What the checks of expressions ask, and what the checks of their parts promise.
-use Rattle.std.specs.Prelude.{ℕ, suc, ◌≤◌, ◌≡◌, Bool, cond, ◌&&◌, ◌||◌, List, [], ◌∷◌, ◌++◌, length, eqb}
+use Rattle.std.specs.Prelude.{ℕ, suc, ◌≡◌, Bool, cond, ◌&&◌, ◌||◌, List, [], ◌∷◌, ◌++◌, length, eqb}
 use Rattle.std.proofs.Math.Option.{Option, none, some}
 use Rattle.span.specs.declared.Span.{Span}
 use Rattle.ast.specs.Tree.{Text, TextNumber, Expr}
@@ -14,19 +14,12 @@ use Rattle.sema.specs.Exprs.{Typing, expr_span, arithmetic_type, compare_type, m
 use Rattle.context.specs.declared.Sink.{Sink}
 use Rattle.context.specs.declared.Typing.{Typing as TypingValue}
 use Rattle.context.specs.Values.{typed_of}
-use Rattle.context.specs.View.{TextsAt}
 use Rattle.lines.specs.declared.Message.{Message}
 use Rattle.lines.specs.Values.{message_of, place_of, name_in, Below}
 use Rattle.tables.specs.Tables.{params_of}
 use Rattle.promises.specs.Emitted.{Emitted}
 use Rattle.typing.specs.declared.Callee.{Callee}
 use Rattle.typing.specs.declared.Wanted.{Wanted}
-
--- the texts, the tables and the scopes that a check looks into
-pub record Checkable (tree index scratch : List ℕ) (depth : ℕ) : Type 0 where
-  pub texts : TextsAt tree index
-  pub room : 65536 ≤ length scratch
-  pub deep : depth ≤ 9
 
 -- what an expression that ends there is found to be, and what is said of it
 pub record Found (t : List Text) (ty : Typing) (end : ℕ) (s : Sink) (o : List ℕ) (r : TypingValue) (o' : List ℕ) : Type 0 where

@@ -5,6 +5,7 @@ ghost use Rattle.sema.specs.Messages.{error_with_note, function_arguments, funct
 ghost use Rattle.sema.specs.Operands.{unless};
 ghost use Rattle.context.specs.Sink.{SinkFits};
 ghost use Rattle.context.specs.Values.{typed_of};
+ghost use Rattle.context.specs.Given.{texts, functions};
 ghost use Rattle.context.specs.View.{TextsAt, span_at, functions_of};
 ghost use Rattle.tables.specs.Tables.{params_of};
 ghost use Rattle.promises.specs.Emitted.{Emitted};
@@ -12,14 +13,13 @@ ghost use Rattle.typing.specs.Checks.{CalleeOf, argument_at};
 
 use crate::demands::check_wanted;
 use crate::{Callee, Wanted};
-use context::{FunctionSig, Index, Sink, Typing};
+use context::{FunctionSig, SemaContext, Sink, Typing};
 use lines::{Message, Note, error, error_with_note};
 use span::Span;
 
 // So many arguments against the parameters of a function that is defined.
 fn count_arguments(
-    tree: &[u8],
-    index: &Index,
+    sema: SemaContext<'_>,
     out: &mut [u8],
     x: usize,
     n: usize,
@@ -27,8 +27,8 @@ fn count_arguments(
     span: Span,
     sink: Sink,
 ) -> Sink
-    requires { TextsAt tree.now index.now × SinkFits sink × (x < length (texts_of tree.now)) }
-    ensures { Emitted (texts_of tree.now) (unless (eqb n sig.param_count) (error_with_note (function_arguments x sig.param_count n) span function_defined sig.decl_span)) sink out.old result out.new }
+    requires { SinkFits sink × (x < length (texts sema)) }
+    ensures { Emitted (texts sema.entry) (unless (eqb n sig.param_count) (error_with_note (function_arguments x sig.param_count n) span function_defined sig.decl_span)) sink out.old result out.new }
 {
     let params = sig.param_count;
     if n == params {
@@ -38,8 +38,8 @@ fn count_arguments(
     lines::report(
         out,
         sink,
-        tree,
-        index,
+        sema.tree,
+        sema.index,
         error_with_note(
             Message::FunctionArguments(x, params as u64, n as u64),
             span,
@@ -51,24 +51,22 @@ fn count_arguments(
 
 // The function that is called with so many arguments.
 pub fn check_callee(
-    tree: &[u8],
-    index: &Index,
-    scratch: &[u8],
+    sema: SemaContext<'_>,
     out: &mut [u8],
     x: usize,
     n: usize,
     span: Span,
     sink: Sink,
 ) -> Callee
-    requires { TextsAt tree.now index.now × (65536 ≤ length scratch.now) × SinkFits sink × (x < length (texts_of tree.now)) }
-    ensures { CalleeOf (texts_of tree.now) (functions_of scratch.now x) x n span sink out.old result out.new }
+    requires { SinkFits sink × (x < length (texts sema)) }
+    ensures { CalleeOf (texts sema.entry) (functions sema.entry x) x n span sink out.old result out.new }
 {
-    let Some(sig) = tables::function(scratch, x) else {
+    let Some(sig) = tables::function(sema.scratch, x) else {
         let said = lines::report(
             out,
             sink,
-            tree,
-            index,
+            sema.tree,
+            sema.index,
             error(Message::FunctionNotDefined(x), span),
         );
         return Callee {
@@ -77,7 +75,7 @@ pub fn check_callee(
             sink: said,
         };
     };
-    let said = count_arguments(tree, index, out, x, n, sig, span, sink);
+    let said = count_arguments(sema, out, x, n, sig, span, sink);
     let ty = sig.return_type;
     Callee {
         typed: Some(ty),
@@ -88,28 +86,20 @@ pub fn check_callee(
 
 // An argument against the parameter of its place, where the function has one.
 pub fn check_argument(
-    tree: &[u8],
-    index: &Index,
-    scratch: &[u8],
+    sema: SemaContext<'_>,
     out: &mut [u8],
     x: usize,
     params: usize,
     i: usize,
     t: Typing,
 ) -> Sink
-    requires { TextsAt tree.now index.now × (65536 ≤ length scratch.now) × SinkFits t.sink × (x < length (texts_of tree.now)) × (params ≡ length (params_of (functions_of scratch.now x))) × (8 ≤ t.next) × (t.next ≤ length tree.now) }
-    ensures { Emitted (texts_of tree.now) (argument_at x i (span_at tree.now (t.next - 8)) (drop i (params_of (functions_of scratch.now x))) (typed_of t.typed)) t.sink out.old result out.new }
+    requires { SinkFits t.sink × (x < length (texts sema)) × (params ≡ length (params_of (functions sema x))) × (8 ≤ t.next) × (t.next ≤ length sema.tree.now) }
+    ensures { Emitted (texts sema.entry) (argument_at x i (span_at sema.entry.tree.now (t.next - 8)) (drop i (params_of (functions sema.entry x))) (typed_of t.typed)) t.sink out.old result out.new }
 {
     let sink = t.sink;
     if params <= i {
         return sink;
     }
-    let expected = tables::param_type(scratch, x, i);
-    check_wanted(
-        tree,
-        index,
-        out,
-        Wanted::Argument(expected, (i + 1) as u64, x),
-        t,
-    )
+    let expected = tables::param_type(sema.scratch, x, i);
+    check_wanted(sema, out, Wanted::Argument(expected, (i + 1) as u64, x), t)
 }

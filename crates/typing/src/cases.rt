@@ -5,13 +5,14 @@ ghost use Rattle.tree.specs.Decode.{texts_of};
 ghost use Rattle.sema.specs.Exprs.{untyped, ident_type, index_type, neg_type, check_expr};
 ghost use Rattle.context.specs.Sink.{SinkFits};
 ghost use Rattle.context.specs.Values.{kind_of, symbol_of, typed_of};
+ghost use Rattle.context.specs.Given.{texts, scopes, functions};
 ghost use Rattle.context.specs.View.{TextsAt, number_at, span_at, scopes_of, functions_of};
 ghost use Rattle.lines.specs.Values.{Below, name_in, diagnostic_of, error_of};
-ghost use Rattle.typing.specs.Checks.{Checkable, Found, has_type, comparable, operation_type, pair_type, pair_message};
+ghost use Rattle.typing.specs.Checks.{Found, has_type, comparable, operation_type, pair_type, pair_message};
 
 use accepted::numbers::{span_at, u16_at, u64_at};
 use ast::ClassicalType;
-use context::{Index, Sink, Symbol, SymbolKind, Typing};
+use context::{SemaContext, Sink, Symbol, SymbolKind, Typing};
 use lines::{Message, error};
 use span::Span;
 
@@ -27,18 +28,17 @@ pub fn has_type(ty: ClassicalType, next: usize, sink: Sink) -> Typing
 
 // No type, and an error said.
 fn refuse(
-    tree: &[u8],
-    index: &Index,
+    sema: SemaContext<'_>,
     out: &mut [u8],
     sink: Sink,
     message: Message,
     span: Span,
     next: usize,
 ) -> Typing
-    requires { TextsAt tree.now index.now × SinkFits sink × Below (length (texts_of tree.now)) (name_in message) }
-    ensures { Found (texts_of tree.now) (untyped (diagnostic_of (error_of message span) ∷ [])) next sink out.old result out.new }
+    requires { SinkFits sink × Below (length (texts sema)) (name_in message) }
+    ensures { Found (texts sema.entry) (untyped (diagnostic_of (error_of message span) ∷ [])) next sink out.old result out.new }
 {
-    let after = lines::report(out, sink, tree, index, error(message, span));
+    let after = lines::report(out, sink, sema.tree, sema.index, error(message, span));
     Typing {
         typed: None,
         next,
@@ -48,8 +48,7 @@ fn refuse(
 
 // A name, by its symbol's kind.
 fn ident_type(
-    tree: &[u8],
-    index: &Index,
+    sema: SemaContext<'_>,
     out: &mut [u8],
     x: usize,
     span: Span,
@@ -57,53 +56,36 @@ fn ident_type(
     next: usize,
     sink: Sink,
 ) -> Typing
-    requires { TextsAt tree.now index.now × SinkFits sink × (x < length (texts_of tree.now)) }
-    ensures { Found (texts_of tree.now) (ident_type x span (kind_of kind)) next sink out.old result out.new }
+    requires { SinkFits sink × (x < length (texts sema)) }
+    ensures { Found (texts sema.entry) (ident_type x span (kind_of kind)) next sink out.old result out.new }
 {
     match kind {
         SymbolKind::Classical(ty) => has_type(ty, next, sink),
         SymbolKind::Const(ty) => has_type(ty, next, sink),
         SymbolKind::Bit => has_type(ClassicalType::Int, next, sink),
         SymbolKind::GateParam => has_type(ClassicalType::Float, next, sink),
-        SymbolKind::Qubit => refuse(tree, index, out, sink, Message::NotClassical(x), span, next),
-        SymbolKind::GateQubit => refuse(
-            tree,
-            index,
-            out,
-            sink,
-            Message::NotClassical(x),
-            span,
-            next,
-        ),
+        SymbolKind::Qubit => refuse(sema, out, sink, Message::NotClassical(x), span, next),
+        SymbolKind::GateQubit => refuse(sema, out, sink, Message::NotClassical(x), span, next),
     }
 }
 
-pub fn check_ident(
-    tree: &[u8],
-    index: &Index,
-    scratch: &[u8],
-    out: &mut [u8],
-    depth: usize,
-    at: usize,
-    sink: Sink,
-) -> Typing
-    requires { Checkable tree.now index.now scratch.now depth × SinkFits sink × (at + 11 ≤ length tree.now) × (number_at 2 tree.now (at + 1) < length (texts_of tree.now)) }
-    ensures { Found (texts_of tree.now) (check_expr (scopes_of scratch.now depth) (functions_of scratch.now) (Expr.Ident (number_at 2 tree.now (at + 1)) (span_at tree.now (at + 3)))) (at + 11) sink out.old result out.new }
+pub fn check_ident(sema: SemaContext<'_>, out: &mut [u8], at: usize, sink: Sink) -> Typing
+    requires { SinkFits sink × (at + 11 ≤ length sema.tree.now) × (number_at 2 sema.tree.now (at + 1) < length (texts sema)) }
+    ensures { Found (texts sema.entry) (check_expr (scopes sema.entry) (functions sema.entry) (Expr.Ident (number_at 2 sema.entry.tree.now (at + 1)) (span_at sema.entry.tree.now (at + 3)))) (at + 11) sink out.old result out.new }
 {
-    let x = u16_at(tree, at + 1);
-    let span = span_at(tree, at + 3);
+    let x = u16_at(sema.tree, at + 1);
+    let span = span_at(sema.tree, at + 3);
     let next = at + 11;
-    let Some(symbol) = tables::get(scratch, depth, x) else {
-        return refuse(tree, index, out, sink, Message::NotDeclared(x), span, next);
+    let Some(symbol) = tables::get(sema.scratch, sema.depth, x) else {
+        return refuse(sema, out, sink, Message::NotDeclared(x), span, next);
     };
     let kind = symbol.kind;
-    ident_type(tree, index, out, x, span, kind, next, sink)
+    ident_type(sema, out, x, span, kind, next, sink)
 }
 
 // A name with an index, by its symbol.
 fn index_type(
-    tree: &[u8],
-    index: &Index,
+    sema: SemaContext<'_>,
     out: &mut [u8],
     x: usize,
     i: u64,
@@ -112,31 +94,22 @@ fn index_type(
     next: usize,
     sink: Sink,
 ) -> Typing
-    requires { TextsAt tree.now index.now × SinkFits sink × (x < length (texts_of tree.now)) }
-    ensures { Found (texts_of tree.now) (index_type x i span (symbol_of symbol) (kind_of symbol.kind)) next sink out.old result out.new }
+    requires { SinkFits sink × (x < length (texts sema)) }
+    ensures { Found (texts sema.entry) (index_type x i span (symbol_of symbol) (kind_of symbol.kind)) next sink out.old result out.new }
 {
     let kind = symbol.kind;
     if !context::is_bit(kind) {
-        return refuse(tree, index, out, sink, Message::NotIndexable(x), span, next);
+        return refuse(sema, out, sink, Message::NotIndexable(x), span, next);
     }
     let size = symbol.size;
     let Some(n) = size else {
-        return refuse(
-            tree,
-            index,
-            out,
-            sink,
-            Message::CannotIndexBit(x),
-            span,
-            next,
-        );
+        return refuse(sema, out, sink, Message::CannotIndexBit(x), span, next);
     };
     if i < n {
         return has_type(ClassicalType::Int, next, sink);
     }
     refuse(
-        tree,
-        index,
+        sema,
         out,
         sink,
         Message::IndexOutOfBounds(i, x, n),
@@ -145,32 +118,24 @@ fn index_type(
     )
 }
 
-pub fn check_index(
-    tree: &[u8],
-    index: &Index,
-    scratch: &[u8],
-    out: &mut [u8],
-    depth: usize,
-    at: usize,
-    sink: Sink,
-) -> Typing
-    requires { Checkable tree.now index.now scratch.now depth × SinkFits sink × (at + 19 ≤ length tree.now) × (number_at 2 tree.now (at + 1) < length (texts_of tree.now)) }
-    ensures { Found (texts_of tree.now) (check_expr (scopes_of scratch.now depth) (functions_of scratch.now) (Expr.Index (number_at 2 tree.now (at + 1)) (number_at 8 tree.now (at + 3)) (span_at tree.now (at + 11)))) (at + 19) sink out.old result out.new }
+pub fn check_index(sema: SemaContext<'_>, out: &mut [u8], at: usize, sink: Sink) -> Typing
+    requires { SinkFits sink × (at + 19 ≤ length sema.tree.now) × (number_at 2 sema.tree.now (at + 1) < length (texts sema)) }
+    ensures { Found (texts sema.entry) (check_expr (scopes sema.entry) (functions sema.entry) (Expr.Index (number_at 2 sema.entry.tree.now (at + 1)) (number_at 8 sema.entry.tree.now (at + 3)) (span_at sema.entry.tree.now (at + 11)))) (at + 19) sink out.old result out.new }
 {
-    let x = u16_at(tree, at + 1);
-    let i = u64_at(tree, at + 3);
-    let span = span_at(tree, at + 11);
+    let x = u16_at(sema.tree, at + 1);
+    let i = u64_at(sema.tree, at + 3);
+    let span = span_at(sema.tree, at + 11);
     let next = at + 19;
-    let Some(symbol) = tables::get(scratch, depth, x) else {
-        return refuse(tree, index, out, sink, Message::NotDeclared(x), span, next);
+    let Some(symbol) = tables::get(sema.scratch, sema.depth, x) else {
+        return refuse(sema, out, sink, Message::NotDeclared(x), span, next);
     };
-    index_type(tree, index, out, x, i, span, symbol, next, sink)
+    index_type(sema, out, x, i, span, symbol, next, sink)
 }
 
 // The type of an operand with a minus before it; the span stands behind the operand.
-pub fn negation(tree: &[u8], index: &Index, out: &mut [u8], t: Typing) -> Typing
-    requires { TextsAt tree.now index.now × SinkFits t.sink × (t.next + 8 ≤ length tree.now) }
-    ensures { Found (texts_of tree.now) (neg_type (span_at tree.now t.next) (typed_of t.typed)) (t.next + 8) t.sink out.old result out.new }
+pub fn negation(sema: SemaContext<'_>, out: &mut [u8], t: Typing) -> Typing
+    requires { SinkFits t.sink × (t.next + 8 ≤ length sema.tree.now) }
+    ensures { Found (texts sema.entry) (neg_type (span_at sema.entry.tree.now t.next) (typed_of t.typed)) (t.next + 8) t.sink out.old result out.new }
 {
     let next = t.next + 8;
     let sink = t.sink;
@@ -185,20 +150,14 @@ pub fn negation(tree: &[u8], index: &Index, out: &mut [u8], t: Typing) -> Typing
     if types::is_numeric(ty) {
         return has_type(ty, next, sink);
     }
-    let span = span_at(tree, t.next);
-    refuse(tree, index, out, sink, Message::NegationNumeric, span, next)
+    let span = span_at(sema.tree, t.next);
+    refuse(sema, out, sink, Message::NegationNumeric, span, next)
 }
 
 fn comparable(a: ClassicalType, b: ClassicalType) -> bool
     ensures { result ≡ comparable a b }
 {
-    if types::number(a) == types::number(b) {
-        return true;
-    }
-    if types::is_numeric(a) {
-        return types::is_numeric(b);
-    }
-    false
+    a == b || (types::is_numeric(a) && types::is_numeric(b))
 }
 
 // The type of an operation on two types, by its case byte: none where they do not go together.
@@ -225,15 +184,14 @@ fn pair_message(case: u8) -> Message
 
 // The type of two operands with an operator or a comparison between them; the span stands behind them.
 pub fn operation(
-    tree: &[u8],
-    index: &Index,
+    sema: SemaContext<'_>,
     out: &mut [u8],
     case: u8,
     l: Option<ClassicalType>,
     t: Typing,
 ) -> Typing
-    requires { TextsAt tree.now index.now × SinkFits t.sink × (t.next + 8 ≤ length tree.now) }
-    ensures { Found (texts_of tree.now) (operation_type case (span_at tree.now t.next) (typed_of l) (typed_of t.typed)) (t.next + 8) t.sink out.old result out.new }
+    requires { SinkFits t.sink × (t.next + 8 ≤ length sema.tree.now) }
+    ensures { Found (texts sema.entry) (operation_type case (span_at sema.entry.tree.now t.next) (typed_of l) (typed_of t.typed)) (t.next + 8) t.sink out.old result out.new }
 {
     let next = t.next + 8;
     let sink = t.sink;
@@ -255,8 +213,8 @@ pub fn operation(
     let result = pair_type(case, a, b);
     let Some(ty) = result else {
         let message = pair_message(case);
-        let span = span_at(tree, t.next);
-        return refuse(tree, index, out, sink, message, span, next);
+        let span = span_at(sema.tree, t.next);
+        return refuse(sema, out, sink, message, span, next);
     };
     has_type(ty, next, sink)
 }

@@ -3,6 +3,7 @@ ghost use Rattle.std.specs.Prelude.{◌≡◌, ◌-◌, ◌≤◌, length};
 ghost use Rattle.tree.specs.Decode.{texts_of};
 ghost use Rattle.context.specs.Sink.{SinkFits};
 ghost use Rattle.context.specs.Values.{typed_of};
+ghost use Rattle.context.specs.Given.{texts};
 ghost use Rattle.context.specs.View.{TextsAt, span_at};
 ghost use Rattle.promises.specs.Emitted.{Emitted};
 ghost use Rattle.typing.specs.Checks.{NamedBelow, meets, complaint, unmet};
@@ -10,7 +11,7 @@ ghost use Rattle.typing.specs.Checks.{NamedBelow, meets, complaint, unmet};
 use crate::Wanted;
 use accepted::numbers::span_at;
 use ast::ClassicalType;
-use context::{Index, Sink, Typing};
+use context::{SemaContext, Sink, Typing};
 use lines::{Message, error};
 
 fn meets(wanted: Wanted, actual: ClassicalType) -> bool
@@ -35,11 +36,10 @@ fn complaint(wanted: Wanted, actual: ClassicalType) -> Message
 }
 
 // An expression that was just checked; its span stands in its last 8 bytes.
-pub fn check_wanted(tree: &[u8], index: &Index, out: &mut [u8], wanted: Wanted, t: Typing) -> Sink
-    requires { TextsAt tree.now index.now × SinkFits t.sink × NamedBelow (length (texts_of tree.now)) wanted × (8 ≤ t.next) × (t.next ≤ length tree.now) }
-    ensures { Emitted (texts_of tree.now) (unmet wanted (span_at tree.now (t.next - 8)) (typed_of t.typed)) t.sink out.old result out.new }
+pub fn check_wanted(sema: SemaContext<'_>, out: &mut [u8], wanted: Wanted, t: Typing) -> Sink
+    requires { SinkFits t.sink × NamedBelow (length (texts sema)) wanted × (8 ≤ t.next) × (t.next ≤ length sema.tree.now) }
+    ensures { Emitted (texts sema.entry) (unmet wanted (span_at sema.entry.tree.now (t.next - 8)) (typed_of t.typed)) t.sink out.old result out.new }
 {
-    let tree = &tree[..];
     let sink = t.sink;
     let found = t.typed;
     let Some(actual) = found else {
@@ -48,12 +48,12 @@ pub fn check_wanted(tree: &[u8], index: &Index, out: &mut [u8], wanted: Wanted, 
     if meets(wanted, actual) {
         return sink;
     }
-    let span = span_at(tree, t.next - 8);
+    let span = span_at(sema.tree, t.next - 8);
     lines::report(
         out,
         sink,
-        tree,
-        index,
+        sema.tree,
+        sema.index,
         error(complaint(wanted, actual), span),
     )
 }
