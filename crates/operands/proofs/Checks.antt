@@ -1,17 +1,15 @@
 -- What is said of an operand: one law for each way out of the checks of its kind, its bounds and the whole. Assumes nothing.
-use Prim.Native.Nat.{ℕ, ◌≤◌, ◌<◌}
-use mathlib.Core.Path.{◌≡◌, refl, sym, ◌∙◌}
-use mathlib.Core.Bool.{Bool, true, false, ◌&&◌, ◌||◌, false≢true}
+use Prim.Native.Nat.{ℕ}
+use mathlib.Core.Path.{◌≡◌, refl, sym, ap, ◌∙◌}
+use mathlib.Core.Bool.{Bool, true, false, not, ◌&&◌, ◌||◌, false≢true}
 use mathlib.Core.List.{List, [], ◌∷◌, ◌++◌}
-use lib.Dec.{leb, ltb}
-use borrow.Author.Tests.{le-leb, lt-leb}
 use Rattle.ast.specs.Tree.{Text}
 use Rattle.sema.specs.Messages
 use Rattle.sema.specs.Symbols.{Symbols, get}
 use Rattle.sema.specs.Operands.{fits, is_gate_qubit, is_some, index_says, slice_says, bounds_say, check_operand}
 use Rattle.context.specs.declared.GateOperand.{GateOperand as Operand}
 use Rattle.context.specs.declared.Symbol.{Symbol as SymbolValue}
-use Rattle.std.specs.Prelude.{Option as Maybe, Some, None}
+use Rattle.std.specs.Prelude.{Option as Maybe, Some, None, is_some as is_present}
 use Rattle.context.specs.declared.Sink.{Sink}
 use Rattle.context.specs.Sink.{SinkFits}
 use Rattle.context.specs.Values.{number_of, ends_of, operand_of, kind_of, symbol_of, found_of}
@@ -21,14 +19,8 @@ use Rattle.lines.specs.declared.Note.{Note}
 use Rattle.lines.specs.declared.Diagnostic.{Diagnostic}
 use Rattle.lines.specs.Values.{expected_of, error_of, error_with_note_of, Reported}
 use Rattle.promises.specs.Emitted.{Emitted, error-fits, noted-fits, emitted-none, emitted_report, emitted_then, emitted_as}
-use Rattle.operands.specs.Says.{kind_says, nothing, check-none, check-some}
-
--- one test after another
-pub both-asked : (a b x y : Bool) → x ≡ a → x ≡ true → y ≡ b → y ≡ (a && b)
-both-asked a b x y e f g = g ∙ rw (← e, f)
-
-pub first_fails : (a b x : Bool) → x ≡ a → x ≡ false → false ≡ (a && b)
-first_fails a b x e f = rw (← e, f)
+use Rattle.operands.specs.declared.bounds.Fault.{Fault}
+use Rattle.operands.specs.Says.{kind_says, index_fault_says, slice_fault_says, nothing, check-none, check-some}
 
 -- nothing said
 pub nothing_is : (xs : List Messages.Diagnostic) → nothing xs ≡ true → xs ≡ []
@@ -36,12 +28,10 @@ unfolding nothing
 nothing_is [] e = refl
 nothing_is (d ∷ ds) e = absurd (false≢true e)
 
--- a test of the ends of a slice
-pub slice_in : (a b n : ℕ) → a ≤ b → ltb b n ≡ (leb a b && ltb b n)
-slice_in a b n l = rw (le-leb a b l)
-
-pub slice_turned : (a b n : ℕ) → b < a → false ≡ (leb a b && ltb b n)
-slice_turned a b n l = rw (lt-leb a b l)
+pub nothing-both : (xs ys : List Messages.Diagnostic) → nothing (xs ++ ys) ≡ (nothing xs && nothing ys)
+unfolding nothing
+nothing-both [] ys = refl
+nothing-both (d ∷ ds) ys = refl
 
 -- what is reported names texts that are there
 pub ruleset reporting = (error-fits, noted-fits)
@@ -56,6 +46,48 @@ module _ (t : List Text) (op : Operand) (sym : SymbolValue) (s : Sink) (o : List
 
   abbrev BoundsSaid : Type 0
   BoundsSaid = Emitted t (bounds_say (operand_of op) (symbol_of sym)) s o r o'
+
+-- whether the bounds say nothing, test by test; `b` tells whether a gate qubit is indexed
+module _ (op : Operand) (v : SymbolValue) where
+  index_quiet : (f : Maybe (Fault ℕ)) (n : Bool) → is_present f ≡ not n → n ≡ nothing (index_fault_says (operand_of op) (symbol_of v) f)
+  unfolding nothing index_fault_says
+  index_quiet None true e = refl
+  index_quiet None false e = absurd (false≢true e)
+  index_quiet (Some Fault.WithoutSize) true e = absurd (false≢true (sym e))
+  index_quiet (Some Fault.WithoutSize) false e = refl
+  index_quiet (Some (Fault.OutOfBounds i n)) true e = absurd (false≢true (sym e))
+  index_quiet (Some (Fault.OutOfBounds i n)) false e = refl
+
+  slice_quiet : (f : Maybe (Fault (ℕ × ℕ))) (n : Bool) → is_present f ≡ not n → n ≡ nothing (slice_fault_says (operand_of op) (symbol_of v) f)
+  unfolding nothing slice_fault_says
+  slice_quiet None true e = refl
+  slice_quiet None false e = absurd (false≢true e)
+  slice_quiet (Some Fault.WithoutSize) true e = absurd (false≢true (sym e))
+  slice_quiet (Some Fault.WithoutSize) false e = refl
+  slice_quiet (Some (Fault.OutOfBounds (a, b) n)) true e = absurd (false≢true (sym e))
+  slice_quiet (Some (Fault.OutOfBounds (a, b) n)) false e = refl
+
+  module _ (b : Bool) (e : b ≡ (is_gate_qubit (kind_of v.kind) && (is_some (number_of op.index) || is_some (ends_of op.slice)))) where
+    pub quiet_wire : b ≡ true → false ≡ nothing (bounds_say (operand_of op) (symbol_of v))
+    unfolding bounds_say nothing
+    quiet_wire z = rw (← e, z)
+
+    module _ (z : b ≡ false) (f : Maybe (Fault ℕ)) (i : index_fault_says (operand_of op) (symbol_of v) f ≡ index_says (operand_of op) (symbol_of v) (number_of op.index) (number_of v.size))
+        (n : Bool) (p : is_present f ≡ not n) where
+      quiet-both : nothing (bounds_say (operand_of op) (symbol_of v)) ≡ (n && nothing (slice_says (operand_of op) (symbol_of v) (ends_of op.slice) (number_of v.size)))
+      unfolding bounds_say
+      quiet-both =
+          rw (← e, z)
+          (nothing-both _ _
+          ∙ ap (λ (x : Bool). x && nothing (slice_says (operand_of op) (symbol_of v) (ends_of op.slice) (number_of v.size))) (sym (index_quiet f n p ∙ ap nothing i)))
+
+      pub quiet_index : n ≡ false → false ≡ nothing (bounds_say (operand_of op) (symbol_of v))
+      quiet_index y = sym (quiet-both ∙ rw y)
+
+      pub quiet_slice : n ≡ true → (g : Maybe (Fault (ℕ × ℕ)))
+          → slice_fault_says (operand_of op) (symbol_of v) g ≡ slice_says (operand_of op) (symbol_of v) (ends_of op.slice) (number_of v.size)
+          → (m : Bool) → is_present g ≡ not m → m ≡ nothing (bounds_say (operand_of op) (symbol_of v))
+      quiet_slice y g j m q = slice_quiet g m q ∙ ap nothing j ∙ sym (quiet-both ∙ rw y)
 
 module _ {t : List Text} {s : Sink} {o : List ℕ} where
   module _ (op : Operand) (sym : SymbolValue) where

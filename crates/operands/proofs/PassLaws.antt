@@ -2,7 +2,7 @@
 use Prim.Native.Nat.{ℕ, zero, suc, ◌+◌}
 use mathlib.Core.Path.{◌≡◌, refl, sym, ap, ◌∙◌}
 use mathlib.Core.Bool.{Bool, true, false, ◌&&◌}
-use mathlib.Core.List.{List, [], ◌∷◌, ◌++◌}
+use mathlib.Core.List.{List}
 use mathlib.Core.Option.{none}
 use native.Mathlib.Omega.{arith}
 use lib.Dec.{eqb}
@@ -11,7 +11,6 @@ use Rattle.span.specs.declared.Span.{Span}
 use Rattle.ast.specs.Tree.{Text, GateOperand}
 use Rattle.tree.specs.Ans.{ok, IsOk, given}
 use Rattle.tree.specs.Stmts.{operand}
-use Rattle.sema.specs.Messages
 use Rattle.sema.specs.Messages.{a_qubit}
 use Rattle.sema.specs.Symbols.{Symbols}
 use Rattle.sema.specs.Marks.{Marks, Key}
@@ -25,31 +24,24 @@ use Rattle.accepted.specs.Parts.{value_is}
 use Rattle.accepted.specs.Singles.{is_single, single_is}
 use Rattle.operands.specs.Says.{nothing}
 use Rattle.operands.specs.Passing.{passing}
+use Rattle.operands.proofs.Checks.{nothing-both}
 use Rattle.operands.proofs.UseLaws.{use_by_lem}
 
--- nothing said, and no mark
-nothing-both : (xs ys : List Messages.Diagnostic) → nothing (xs ++ ys) ≡ (nothing xs && nothing ys)
-unfolding nothing
-nothing-both [] ys = refl
-nothing-both (d ∷ ds) ys = refl
-
+-- no mark
 unmarked : (tree : List ℕ) (op : GateOperand) (sp : Span) (q : ℕ) → eqb q 0 ≡ nothing (used_says op sp (mark_by tree q))
 unfolding nothing used_says mark_by
 unmarked tree op sp zero = refl
 unmarked tree op sp (suc q) = ne_eqb (suc q) 0 (λ e. omega arith)
 
--- one law for each way out of the test
+-- of an operand with an index and no slice: something is said of it by itself, or nothing but of its use
 module _ (t : List Text) (s : List ℕ) (ss : Symbols) (at : ℕ) (single : Bool) (f : single ≡ is_single s at) where
-  pub pass_other : (m : Marks) → single ≡ false → (sp : Span) → false ≡ passing t s ss m sp at
-  pass_other m g sp = rw (← f, g)
-
   module _ (g : single ≡ true) (op : Operand) (e : operand t s at ≡ ok (operand_of op) (at + 20)) (quiet : Bool) (q : quiet ≡ nothing (check_operand ss (operand_of op) a_qubit)) where
     passing_is : (m : Marks) (sp : Span) → passing t s ss m sp at ≡ (quiet && nothing (check_use_after_measure m (operand_of op) sp))
     unfolding given
     passing_is m sp = rw (← f, g, e, nothing-both (check_operand ss (operand_of op) a_qubit) (check_use_after_measure m (operand_of op) sp), ← q)
 
-    pub pass_loud : (m : Marks) → quiet ≡ false → (sp : Span) → false ≡ passing t s ss m sp at
-    pass_loud m z sp = sym (passing_is m sp ∙ rw z)
+    pub pass_loud : (m : Marks) → quiet ≡ false → (sp : Span) → quiet ≡ passing t s ss m sp at
+    pass_loud m z sp = z ∙ sym (passing_is m sp ∙ rw z)
 
     pub pass_quiet : (ks : List Key) (sheet : List ℕ) → quiet ≡ true → IsOk (operand t s at) → (p : ℕ) → p ≡ lookup_in ks sheet op.name (number_of op.index)
         → (sp : Span) → eqb p 0 ≡ passing t s ss (marks_of s ks sheet) sp at

@@ -84,7 +84,7 @@ least-place own a b (Some (i, p)) h = h.2
 
 module _ (ks : List Key) (sheet : List ℕ) (x a b : ℕ) where
   whole-place : (w : ℕ) → place_in ks sheet (key x none) ≡ w → Distinct ks
-      → HasPlace (by_whole w (least_in x (a, b) ks sheet) (Covered.At a (lookup_in ks sheet x (some a))))
+      → HasPlace (by_whole w (least_in x (a, b) ks sheet) (Some (a, (lookup_in ks sheet x (some a)))))
   unfolding lookup_in
   whole-place zero e d = least-place _ a b _ (least_is x a b ks sheet d)
   whole-place (suc w) e d = first_pos (place_in ks sheet (key x (some a))) (place_in ks sheet (key x none)) (omega arith)

@@ -17,16 +17,16 @@ use Rattle.sema.specs.Symbols.{Symbols}
 use Rattle.sema.specs.Marks.{Marks}
 use Rattle.sema.specs.Operands.{unless, check_operand, operand_width, check_use_after_measure, use_operands}
 use Rattle.sema.specs.Stmts.{wide, register_widths, all_equal, widths_say}
-use Rattle.std.specs.Prelude.{Option as Maybe, Some, None}
+use Rattle.std.specs.Prelude.{Option as Maybe}
 use Rattle.context.specs.declared.GateOperand.{GateOperand as Operand}
 use Rattle.context.specs.declared.Sink.{Sink}
 use Rattle.context.specs.Sink.{SinkFits}
 use Rattle.context.specs.Values.{number_of, operand_of}
 use Rattle.accepted.specs.Cases.{blank_operand}
 use Rattle.accepted.specs.Parts.{value_or, next_is, value_is, given_is, given_ok}
-use Rattle.accepted.specs.Fields.{counted_is, repeat-none, repeat-first, repeat_is}
+use Rattle.accepted.specs.Fields.{counted_is, repeat-none, repeat_is}
 use Rattle.accepted.specs.Singles.{is_single, both_first, both_second, single_is, single_inside}
-use Rattle.accepted.specs.Remains.{Remains, remains-start, remains-more}
+use Rattle.accepted.specs.Remains.{Remains, remains-none, remains-first, remains-step}
 use Rattle.accepted.specs.Counts.{vec_size}
 use Rattle.lines.specs.declared.Message.{Message}
 use Rattle.lines.specs.declared.Diagnostic.{Diagnostic}
@@ -48,27 +48,30 @@ module _ (t : List Text) (s : List ℕ) (at : ℕ) where
   Left n k = Remains [] ◌∷◌ (operand t) s (next_of (vec (operand t) s at)) n k
 
   left-all : {B : Type 0} (b : B) (f : List GateOperand → B) (n : ℕ) → IsOk (vec (operand t) s at) → n ≡ get_or s at 0
-      → given b f (vec (operand t) s at) ≡ f (left t s n (at + 1))
-  left-all b f n h e = given_ok [] b f (vec (operand t) s at) h ∙ rw (e, ← counted_is s at [] ◌∷◌ (operand t) h)
+      → given b f (vec (operand t) s at) ≡ f (left t s (n - 0) (at + 1))
+  left-all b f n h e = given_ok [] b f (vec (operand t) s at) h ∙ (let q : n - 0 ≡ n = omega arith in rw (q, e, ← counted_is s at [] ◌∷◌ (operand t) h))
 
-  module _ (n k : ℕ) (m : Left n k) where
-    pub left-first : 0 < n → IsOk (operand t s k)
-    left-first l = repeat-first s k [] ◌∷◌ (operand t) n m.rest l
+  -- after i operands of n
+  module _ (n i k : ℕ) (m : Left (n - i) k) where
+    pub left-first : i < n → IsOk (operand t s k)
+    left-first l = remains-first m l
 
-    pub left-inside : 0 < n → is_single s k ≡ true → k + 20 ≤ length s
+    pub left-inside : i < n → is_single s k ≡ true → k + 20 ≤ length s
     left-inside l e = single_inside t s k (left-first l) e
 
-    module _ (l : 0 < n) (op : GateOperand) (next : ℕ) (e : operand t s k ≡ ok op next) where
-      left-next : Left (n - 1) next
-      left-next = remains-more m l (sym (next_is e))
+    module _ (l : i < n) (op : GateOperand) (next : ℕ) (e : operand t s k ≡ ok op next) where
+      left-next : Left (n - (i + 1)) next
+      left-next = remains-step m l (sym (next_is e))
 
-      left_is : left t s n k ≡ op ∷ left t s (n - 1) next
+      left_is : left t s (n - i) k ≡ op ∷ left t s (n - (i + 1)) next
       left_is =
-          value_is (repeat_is s k [] ◌∷◌ (operand t) n m.rest l next (sym (next_is e)) blank_operand) []
-          ∙ ap (λ (o : GateOperand). o ∷ left t s (n - 1) next) (value_is e blank_operand)
+          let q : n - (i + 1) ≡ n - i - 1 = omega arith in
+          rw q
+          (value_is (repeat_is s k [] ◌∷◌ (operand t) (n - i) m.rest (omega arith) next (sym (next_is e)) blank_operand) []
+          ∙ ap (λ (o : GateOperand). o ∷ left t s (n - i - 1) next) (value_is e blank_operand))
 
-    left-none : n ≤ 0 → left t s n k ≡ []
-    left-none l = value_is (repeat-none s k [] ◌∷◌ (operand t) n l) []
+    left-none : n ≤ i → left t s (n - i) k ≡ []
+    left-none l = value_is (repeat-none s k [] ◌∷◌ (operand t) (n - i) (omega arith)) []
 
 -- Uses: what is said of the operands left, behind what is said so far, is what is said of all.
 pub record Using (t : List Text) (tree : List ℕ) (ss : Symbols) (m : Marks) (sp : Span) (at : ℕ) (s : Sink) (o : List ℕ) (n k : ℕ) (r : Sink) (o' : List ℕ) : Type 0 where
@@ -78,43 +81,43 @@ pub record Using (t : List Text) (tree : List ℕ) (ss : Symbols) (m : Marks) (s
   pub all : {q : Sink} {o'' : List ℕ} → Emitted t (use_operands ss m sp (left t tree n k)) r o' q o'' → Emitted t (given [] (use_operands ss m sp) (vec (operand t) tree at)) s o q o''
 
 module _ (t : List Text) (tree : List ℕ) (ss : Symbols) (m : Marks) (sp : Span) (at : ℕ) (s : Sink) (o : List ℕ) where
-  pub using_start : (n : ℕ) → IsOk (vec (operand t) tree at) → SinkFits s → n ≡ get_or tree at 0 → Using t tree ss m sp at s o n (at + 1) s o
+  pub using_start : (n : ℕ) → IsOk (vec (operand t) tree at) → SinkFits s → n ≡ get_or tree at 0 → Using t tree ss m sp at s o (n - 0) (at + 1) s o
   using_start n h f e = record {
-    remains = remains-start [] ◌∷◌ (operand t) tree at n h e;
+    remains = remains-none [] ◌∷◌ (operand t) tree at n h e;
     fits = f;
     same_length = refl;
     all = λ p. emitted_as p (sym (left-all t tree at [] (use_operands ss m sp) n h e));
   }
 
-  module _ (n k : ℕ) (r : Sink) (o' : List ℕ) (u : Using t tree ss m sp at s o n k r o') where
-    pub using_more : 0 < n → (op : GateOperand) (next : ℕ) → operand t tree k ≡ ok op next → (q : Sink) (o'' : List ℕ) → length o'' ≡ length o'
+  module _ (n i k : ℕ) (r : Sink) (o' : List ℕ) (u : Using t tree ss m sp at s o (n - i) k r o') where
+    pub using_more : i < n → (op : GateOperand) (next : ℕ) → operand t tree k ≡ ok op next → (q : Sink) (o'' : List ℕ) → length o'' ≡ length o'
         → Emitted t (check_operand ss op a_qubit ++ check_use_after_measure m op sp) r o' q o''
-        → Using t tree ss m sp at s o (n - 1) next q o''
+        → Using t tree ss m sp at s o (n - (i + 1)) next q o''
     unfolding use_operands
     using_more l op next e q o'' g p = record {
-      remains = left-next t tree at n k u.remains l op next e;
+      remains = left-next t tree at n i k u.remains l op next e;
       fits = p.fits;
       same_length = g ∙ u.same_length;
-      all = λ z. u.all (emitted_as (emitted_then p z) (sym (ap (use_operands ss m sp) (left_is t tree at n k u.remains l op next e))));
+      all = λ z. u.all (emitted_as (emitted_then p z) (sym (ap (use_operands ss m sp) (left_is t tree at n i k u.remains l op next e))));
     }
 
     -- past an operand of which nothing is said
-    module _ (l : 0 < n) (b : Bool) (f : (p : Span) → b ≡ passing t tree ss m p k) (e : b ≡ true) where
+    module _ (l : i < n) (b : Bool) (f : (p : Span) → b ≡ passing t tree ss m p k) (e : b ≡ true) where
       using_single : is_single tree k ≡ true
       using_single = both_first _ _ (sym (f sp) ∙ e)
 
       pub using_inside : k + 20 ≤ length tree
-      using_inside = left-inside t tree at n k u.remains l using_single
+      using_inside = left-inside t tree at n i k u.remains l using_single
 
-      pub using_pass : Using t tree ss m sp at s o (n - 1) (k + 20) r o'
+      pub using_pass : Using t tree ss m sp at s o (n - (i + 1)) (k + 20) r o'
       using_pass =
-          let i = single_is t tree k (left-first t tree at n k u.remains l) using_single in
-          let z = sym (given_is i false (λ op. nothing (check_operand ss op a_qubit ++ check_use_after_measure m op sp))) ∙ both_second (is_single tree k) _ (sym (f sp) ∙ e) in
-          using_more l _ (k + 20) i r o' refl (emitted_as (emitted-none u.fits) (sym (nothing_is _ z)))
+          let j = single_is t tree k (left-first t tree at n i k u.remains l) using_single in
+          let z = sym (given_is j false (λ op. nothing (check_operand ss op a_qubit ++ check_use_after_measure m op sp))) ∙ both_second (is_single tree k) _ (sym (f sp) ∙ e) in
+          using_more l _ (k + 20) j r o' refl (emitted_as (emitted-none u.fits) (sym (nothing_is _ z)))
 
-    pub using_end : n ≤ 0 → Emitted t (given [] (use_operands ss m sp) (vec (operand t) tree at)) s o r o'
+    pub using_end : n ≤ i → Emitted t (given [] (use_operands ss m sp) (vec (operand t) tree at)) s o r o'
     unfolding use_operands
-    using_end l = u.all (emitted_as (emitted-none u.fits) (sym (ap (use_operands ss m sp) (left-none t tree at n k u.remains l))))
+    using_end l = u.all (emitted_as (emitted-none u.fits) (sym (ap (use_operands ss m sp) (left-none t tree at n i k u.remains l))))
 
 -- Widths: those of the operands left, behind those that were met, agree if all do.
 pub record Meeting (t : List Text) (tree : List ℕ) (ss : Symbols) (at n k : ℕ) (met : Widths) : Type 0 where
@@ -122,35 +125,35 @@ pub record Meeting (t : List Text) (tree : List ℕ) (ss : Symbols) (at n k : �
   pub all : agree met (register_widths ss (left t tree n k)) ≡ given true (λ ops. uniform (register_widths ss ops)) (vec (operand t) tree at)
 
 module _ (t : List Text) (tree : List ℕ) (ss : Symbols) (at : ℕ) where
-  pub meeting-start : (n : ℕ) → IsOk (vec (operand t) tree at) → n ≡ get_or tree at 0 → Meeting t tree ss at n (at + 1) Widths.None
+  pub meeting-start : (n : ℕ) → IsOk (vec (operand t) tree at) → n ≡ get_or tree at 0 → Meeting t tree ss at (n - 0) (at + 1) Widths.None
   unfolding agree
   meeting-start n h e = record {
-    remains = remains-start [] ◌∷◌ (operand t) tree at n h e;
+    remains = remains-none [] ◌∷◌ (operand t) tree at n h e;
     all = sym (left-all t tree at true (λ ops. uniform (register_widths ss ops)) n h e);
   }
 
-  module _ (n k : ℕ) (met : Widths) (u : Meeting t tree ss at n k met) where
-    meeting-step : 0 < n → (op : GateOperand) (next : ℕ) → operand t tree k ≡ ok op next → (r : Widths) → ((ws : List ℕ) → agree r ws ≡ agree met (wide (operand_width ss op) ws))
-        → Meeting t tree ss at (n - 1) next r
+  module _ (n i k : ℕ) (met : Widths) (u : Meeting t tree ss at (n - i) k met) where
+    meeting-step : i < n → (op : GateOperand) (next : ℕ) → operand t tree k ≡ ok op next → (r : Widths) → ((ws : List ℕ) → agree r ws ≡ agree met (wide (operand_width ss op) ws))
+        → Meeting t tree ss at (n - (i + 1)) next r
     unfolding register_widths
     meeting-step l op next e r g = record {
-      remains = left-next t tree at n k u.remains l op next e;
-      all = g _ ∙ ap (λ ops. agree met (register_widths ss ops)) (sym (left_is t tree at n k u.remains l op next e)) ∙ u.all;
+      remains = left-next t tree at n i k u.remains l op next e;
+      all = g _ ∙ ap (λ ops. agree met (register_widths ss ops)) (sym (left_is t tree at n i k u.remains l op next e)) ∙ u.all;
     }
 
-    pub meeting-more : 0 < n → (op : Operand) (next : ℕ) → operand t tree k ≡ ok (operand_of op) next → (width : Maybe ℕ) → number_of width ≡ operand_width ss (operand_of op)
-        → (r : Widths) → ((ws : List ℕ) → agree r ws ≡ agree met (wide (number_of width) ws)) → Meeting t tree ss at (n - 1) next r
+    pub meeting-more : i < n → (op : Operand) (next : ℕ) → operand t tree k ≡ ok (operand_of op) next → (width : Maybe ℕ) → number_of width ≡ operand_width ss (operand_of op)
+        → (r : Widths) → ((ws : List ℕ) → agree r ws ≡ agree met (wide (number_of width) ws)) → Meeting t tree ss at (n - (i + 1)) next r
     meeting-more l op next e width f r g = meeting-step l (operand_of op) next e r (λ ws. rw (← f) (g ws))
 
     -- past an operand with an index and no slice
-    pub meeting_single : 0 < n → (b : Bool) → b ≡ is_single tree k → b ≡ true → Meeting t tree ss at (n - 1) (k + 20) met
+    pub meeting_single : i < n → (b : Bool) → b ≡ is_single tree k → b ≡ true → Meeting t tree ss at (n - (i + 1)) (k + 20) met
     meeting_single l b f e =
-        meeting-step l _ (k + 20) (single_is t tree k (left-first t tree at n k u.remains l) (sym f ∙ e)) met
+        meeting-step l _ (k + 20) (single_is t tree k (left-first t tree at n i k u.remains l) (sym f ∙ e)) met
         (λ ws. ap (agree met) (width_single ss _ refl refl ws))
 
-    pub meeting-end : n ≤ 0 → agree met [] ≡ given true (λ ops. uniform (register_widths ss ops)) (vec (operand t) tree at)
+    pub meeting-end : n ≤ i → agree met [] ≡ given true (λ ops. uniform (register_widths ss ops)) (vec (operand t) tree at)
     unfolding register_widths
-    meeting-end l = ap (λ ops. agree met (register_widths ss ops)) (sym (left-none t tree at n k u.remains l)) ∙ u.all
+    meeting-end l = ap (λ ops. agree met (register_widths ss ops)) (sym (left-none t tree at n i k u.remains l)) ∙ u.all
 
 -- one width alone is equal to all
 one-uniform : (w : Option ℕ) → uniform (wide w []) ≡ true

@@ -1,6 +1,7 @@
 -- Widths of operands: one law for each way out. Assumes nothing.
 use Prim.Native.Nat.{ℕ, suc, ◌+◌, ◌-◌, ◌≤◌, ◌<◌}
-use mathlib.Core.Path.{◌≡◌, refl}
+use mathlib.Core.Path.{◌≡◌, refl, sym}
+use mathlib.Core.Bool.{true, false, false≢true}
 use mathlib.Core.List.{List, ◌∷◌}
 use mathlib.Core.Option.{Option, none, some}
 use native.Mathlib.Omega.{arith}
@@ -11,7 +12,8 @@ use Rattle.ast.specs.Tree.{Text, GateOperand}
 use Rattle.sema.specs.Symbols.{Symbols, Symbol, get}
 use Rattle.sema.specs.Operands.{slice_width, width_by, operand_width}
 use Rattle.sema.specs.Stmts.{wide, all_equal}
-use Rattle.std.specs.Prelude.{Option as Maybe, Some, None}
+use Rattle.std.specs.Prelude.{Option as Maybe, Some, None, is_some, SomeIff}
+use Rattle.std.specs.Option.{unwrap_or}
 use Rattle.context.specs.declared.GateOperand.{GateOperand as Operand}
 use Rattle.context.specs.declared.Symbol.{Symbol as SymbolValue}
 use Rattle.context.specs.declared.Sink.{Sink}
@@ -31,34 +33,28 @@ module _ (a b : ℕ) where
   unfolding slice_width
   slice-none l = rw (lt-leb a b l)
 
-  pub slice_over : a ≤ b → b - a ≡ 18446744073709551615 → none ≡ slice_width (a, b)
+  pub slice_added : a ≤ b → {d : ℕ} → d ≡ b - a → (r : Maybe ℕ) → SomeIff r (d + 1 < 18446744073709551616) (d + 1) → number_of r ≡ slice_width (a, b)
   unfolding slice_width
-  slice_over l e = rw (le-leb a b l, e)
-
-  pub slice-some : a ≤ b → (b - a ≡ 18446744073709551615 → ⊥) → b < 18446744073709551616 → some (b - a + 1) ≡ slice_width (a, b)
-  unfolding slice_width
-  slice-some l e h = rw (le-leb a b l, add-one, lt-ltb (suc (b - a)) 18446744073709551616 (omega arith))
+  slice_added l e None f = rw (le-leb a b l, le-ltb (suc (b - a)) 18446744073709551616 (omega (arith, e, f)))
+  slice_added l e (Some w) (p, g) = rw (le-leb a b l, g, e, add-one, lt-ltb (suc (b - a)) 18446744073709551616 (omega (arith, e, p)))
 
 -- the width of an operand that is declared, by its slice, its index, its size
-module _ (size index : Maybe ℕ) (slice : Maybe (ℕ × ℕ)) where
-  pub width_slice : {a b : ℕ} (r : Maybe ℕ) → slice ≡ Some (a, b) → number_of r ≡ slice_width (a, b) → number_of r ≡ width_by (number_of size) (ends_of slice) (number_of index)
-  unfolding width_by
-  width_slice r e f = rw e f
+pub width_slice : (size index : Maybe ℕ) (slice : Maybe (ℕ × ℕ)) {a b : ℕ} (r : Maybe ℕ) → slice ≡ Some (a, b) → number_of r ≡ slice_width (a, b)
+    → number_of r ≡ width_by (number_of size) (ends_of slice) (number_of index)
+unfolding width_by
+width_slice size index slice r e f = rw e f
 
-  module _ (e : slice ≡ None) where
-    pub width_index : {i : ℕ} → index ≡ Some i → some 1 ≡ width_by (number_of size) (ends_of slice) (number_of index)
-    unfolding width_by
-    width_index f = rw (e, f)
+pub width_index : (size index : Maybe ℕ) (slice : Maybe (ℕ × ℕ)) → slice ≡ None → true ≡ is_some index → some 1 ≡ width_by (number_of size) (ends_of slice) (number_of index)
+unfolding width_by
+width_index size None slice e f = absurd (false≢true (sym f))
+width_index size (Some i) slice e f = rw e
 
-    pub width_scalar : index ≡ None → size ≡ None → some 1 ≡ width_by (number_of size) (ends_of slice) (number_of index)
-    unfolding width_by
-    width_scalar f g = rw (e, f, g)
-
-    pub width_size : {n : ℕ} → index ≡ None → size ≡ Some n → some n ≡ width_by (number_of size) (ends_of slice) (number_of index)
-    unfolding width_by
-    width_size f g = rw (e, f, g)
-
-pub ruleset width_said = (width_slice, width_index, width_scalar, width_size)
+pub width_size : (size index : Maybe ℕ) (slice : Maybe (ℕ × ℕ)) → slice ≡ None → false ≡ is_some index
+    → (n : ℕ) → n ≡ unwrap_or size 1 → some n ≡ width_by (number_of size) (ends_of slice) (number_of index)
+unfolding width_by
+width_size size (Some i) slice e f n g = absurd (false≢true f)
+width_size None None slice e f n g = rw (e, g)
+width_size (Some m) None slice e f n g = rw (e, g)
 
 -- ".. and an undeclared name have no width."
 module _ (ss : Symbols) (op : Operand) (found : Maybe SymbolValue) (e : found_of found ≡ get ss op.name) where
@@ -86,13 +82,13 @@ module _ (met : Widths) (w : ℕ) (ws : List ℕ) where
   unfolding agree uniform
   meet_first e = rw e
 
-  pub meet_same : {f : ℕ} → met ≡ Widths.All f → w ≡ f → agree (Widths.All f) ws ≡ agree met (w ∷ ws)
+  pub meet_same : {f : ℕ} → met ≡ Widths.All f → f ≡ w → agree (Widths.All f) ws ≡ agree met (w ∷ ws)
   unfolding agree all_equal
-  meet_same {f = f} e g = rw (e, eq-eqb w f g)
+  meet_same {f = f} e g = rw (e, eq-eqb w f (sym g))
 
-  pub meet_other : {f : ℕ} → met ≡ Widths.All f → (w ≡ f → ⊥) → agree Widths.Differ ws ≡ agree met (w ∷ ws)
+  pub meet_other : {f : ℕ} → met ≡ Widths.All f → (f ≡ w → ⊥) → agree Widths.Differ ws ≡ agree met (w ∷ ws)
   unfolding agree all_equal
-  meet_other {f = f} e g = rw (e, ne_eqb w f g)
+  meet_other {f = f} e g = rw (e, ne_eqb w f (λ q. g (sym q)))
 
   pub meet_differ : met ≡ Widths.Differ → agree Widths.Differ ws ≡ agree met (w ∷ ws)
   unfolding agree

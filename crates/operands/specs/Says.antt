@@ -6,8 +6,8 @@ use Rattle.sema.specs.Messages
 use Rattle.sema.specs.Messages.{Expected, Diagnostic, error, error_with_note}
 use Rattle.sema.specs.Symbols.{Symbols, Symbol, get}
 use Rattle.sema.specs.Operands.{fits, unless, bounds_say, check_operand}
-use Rattle.operands.specs.declared.bounds.IndexFault.{IndexFault}
-use Rattle.operands.specs.declared.bounds.SliceFault.{SliceFault}
+use Rattle.std.specs.Prelude.{ℕ, Option as Maybe, Some, None}
+use Rattle.operands.specs.declared.bounds.Fault.{Fault}
 
 -- a symbol of another kind than expected
 unfoldable pub kind_says : GateOperand → Symbol → Expected → List Diagnostic
@@ -16,17 +16,17 @@ kind_says op sym expected =
     (error_with_note (Messages.expected_kind expected op.name sym.kind) op.span (Messages.declared_as op.name sym.kind) sym.decl_span)
 
 -- a fault of an index, and of a slice
-unfoldable pub index_fault_says : GateOperand → Symbol → IndexFault → List Diagnostic
-index_fault_says op sym IndexFault.None = []
-index_fault_says op sym IndexFault.WithoutSize =
+unfoldable pub index_fault_says : GateOperand → Symbol → Maybe (Fault ℕ) → List Diagnostic
+index_fault_says op sym None = []
+index_fault_says op sym (Some Fault.WithoutSize) =
     error_with_note (Messages.cannot_index op.name) op.span (Messages.declared_without_size op.name) sym.decl_span ∷ []
-index_fault_says op sym (IndexFault.OutOfBounds i n) =
+index_fault_says op sym (Some (Fault.OutOfBounds i n)) =
     error_with_note (Messages.index_out_of_bounds i op.name n) op.span (Messages.declared_with_size op.name n) sym.decl_span ∷ []
 
-unfoldable pub slice_fault_says : GateOperand → Symbol → SliceFault → List Diagnostic
-slice_fault_says op sym SliceFault.None = []
-slice_fault_says op sym SliceFault.WithoutSize = error (Messages.cannot_slice op.name) op.span ∷ []
-slice_fault_says op sym (SliceFault.OutOfBounds a b n) =
+unfoldable pub slice_fault_says : GateOperand → Symbol → Maybe (Fault (ℕ × ℕ)) → List Diagnostic
+slice_fault_says op sym None = []
+slice_fault_says op sym (Some Fault.WithoutSize) = error (Messages.cannot_slice op.name) op.span ∷ []
+slice_fault_says op sym (Some (Fault.OutOfBounds (a, b) n)) =
     error_with_note (Messages.slice_out_of_bounds a b op.name n) op.span (Messages.declared_with_size op.name n) sym.decl_span ∷ []
 
 -- nothing is said

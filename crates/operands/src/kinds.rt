@@ -8,68 +8,30 @@ ghost use Rattle.lines.specs.Values.{expected_of};
 use context::{GateOperand, SymbolKind};
 use lines::Expected;
 
-pub fn has_number(n: Option<u64>) -> bool
-    ensures { result ≡ sema.is_some (number_of n) }
-{
-    if let Some(_) = n { true } else { false }
-}
-
-fn has_ends(e: Option<(u64, u64)>) -> bool
-    ensures { result ≡ sema.is_some (ends_of e) }
-{
-    if let Some(_) = e {
-        true
-    } else {
-        false
-    }
-}
-
 // Has the operand an index or a slice?
 fn is_subscripted(op: GateOperand) -> bool
     ensures { result ≡ (sema.is_some (number_of op.index) || sema.is_some (ends_of op.slice)) }
 {
-    let index = op.index;
-    let slice = op.slice;
-    if has_number(index) {
-        return true;
-    }
-    has_ends(slice)
+    op.index.is_some() || op.slice.is_some()
 }
 
 fn is_gate_qubit(kind: SymbolKind) -> bool
     ensures { result ≡ sema.is_gate_qubit (kind_of kind) }
 {
-    match kind {
-        SymbolKind::GateQubit => true,
-        SymbolKind::Qubit => false,
-        SymbolKind::Bit => false,
-        SymbolKind::Classical(_) => false,
-        SymbolKind::Const(_) => false,
-        SymbolKind::GateParam => false,
-    }
+    matches!(kind, SymbolKind::GateQubit)
 }
 
 // A gate qubit is a single wire.
 pub fn indexes_wire(op: GateOperand, kind: SymbolKind) -> bool
     ensures { result ≡ (sema.is_gate_qubit (kind_of kind) && (sema.is_some (number_of op.index) || sema.is_some (ends_of op.slice))) }
 {
-    if is_gate_qubit(kind) {
-        return is_subscripted(op);
-    }
-    false
+    is_gate_qubit(kind) && is_subscripted(op)
 }
 
 fn is_qubit(kind: SymbolKind) -> bool
     ensures { result ≡ sema.fits a_qubit (kind_of kind) }
 {
-    match kind {
-        SymbolKind::Qubit => true,
-        SymbolKind::GateQubit => true,
-        SymbolKind::Bit => false,
-        SymbolKind::Classical(_) => false,
-        SymbolKind::Const(_) => false,
-        SymbolKind::GateParam => false,
-    }
+    matches!(kind, SymbolKind::Qubit | SymbolKind::GateQubit)
 }
 
 // What goes for a qubit, and for a bit.
@@ -86,8 +48,5 @@ pub fn fits(expected: Expected, kind: SymbolKind) -> bool
 pub fn within(a: u64, b: u64, n: u64) -> bool
     ensures { result ≡ (leb a b && ltb b n) }
 {
-    if a <= b {
-        return b < n;
-    }
-    false
+    a <= b && b < n
 }

@@ -6,13 +6,16 @@ ghost use Rattle.tree.specs.Decode.{texts_of};
 ghost use Rattle.sema.specs.Marks.{smallest_covered};
 ghost use Rattle.sema.specs.Operands.{used_index_says};
 ghost use Rattle.context.specs.Sink.{SinkFits};
+ghost use Rattle.context.specs.Given.{texts};
 ghost use Rattle.context.specs.View.{TextsAt, Placed, keys_in, marks_of, measure_span};
 ghost use Rattle.sheet.specs.Sheet.{Indexed, Distinct};
+ghost use Rattle.operands.specs.Measured.{marks};
 ghost use Rattle.promises.specs.Emitted.{Emitted};
 
+use crate::Measured;
 use accepted::numbers::span_at;
 use accepted::parts::{skip_operand, skip_option_operand};
-use context::{Index, Sink};
+use context::Sink;
 use lines::{Message, Note, error_with_note};
 use span::Span;
 
@@ -28,29 +31,26 @@ pub fn measure_span(tree: &[u8], place: usize) -> Span
 
 // The smallest index of the slice that a mark covers.
 pub fn check_slice_use(
-    tree: &[u8],
-    index: &Index,
+    m: Measured<'_>,
     out: &mut [u8],
-    keys: usize,
-    marks: &[u16; 256],
     x: usize,
     a: u64,
     b: u64,
     span: Span,
     sink: Sink,
 ) -> Sink
-    requires { TextsAt tree.now index.now × Indexed index.now keys × Distinct (keys_in index.now keys) × Placed tree.now marks.now × (x < length (texts_of tree.now)) × SinkFits sink }
-    ensures { Emitted (texts_of tree.now) (used_index_says x span (smallest_covered (marks_of tree.now (keys_in index.now keys) marks.now) x (a, b))) sink out.old result out.new }
+    requires { (x < length (texts m.sema)) × SinkFits sink }
+    ensures { Emitted (texts m.entry.sema) (used_index_says x span (smallest_covered (marks m.entry) x (a, b))) sink out.old result out.new }
 {
-    let Some((i, place)) = sheet::smallest(marks, index, keys, x, a, b) else {
+    let Some((i, place)) = sheet::smallest(m.marks, m.sema.index, m.keys, x, a, b) else {
         return sink;
     };
-    let at = measure_span(tree, place as usize);
+    let at = measure_span(m.sema.tree, place as usize);
     lines::report(
         out,
         sink,
-        tree,
-        index,
+        m.sema.tree,
+        m.sema.index,
         error_with_note(Message::UsedIndex(x, i), span, Note::MeasuredHere, at),
     )
 }

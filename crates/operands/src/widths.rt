@@ -5,8 +5,6 @@ ghost use Rattle.sema.specs.Stmts.{wide};
 ghost use Rattle.context.specs.Values.{number_of, ends_of};
 ghost use Rattle.operands.specs.Widths.{agree};
 
-use context::{Ends};
-
 // The widths above 1 that were met: none, all equal to one, or two that differ.
 #[derive(Clone, Copy)]
 pub enum Widths {
@@ -19,13 +17,7 @@ pub enum Widths {
 fn slice_width(a: u64, b: u64) -> Option<u64>
     ensures { number_of result ≡ slice_width (a, b) }
 {
-    if b < a {
-        return None;
-    }
-    if b - a == 18446744073709551615 {
-        return None;
-    }
-    Some(b - a + 1)
+    b.checked_sub(a)?.checked_add(1)
 }
 
 pub fn width_by(size: Option<u64>, slice: Option<(u64, u64)>, index: Option<u64>) -> Option<u64>
@@ -34,13 +26,10 @@ pub fn width_by(size: Option<u64>, slice: Option<(u64, u64)>, index: Option<u64>
     if let Some((a, b)) = slice {
         return slice_width(a, b);
     }
-    if let Some(_) = index {
+    if index.is_some() {
         return Some(1);
     }
-    let Some(n) = size else {
-        return Some(1);
-    };
-    Some(n)
+    Some(size.unwrap_or(1))
 }
 
 // One width more that is above 1.
@@ -49,13 +38,8 @@ fn meet_wide(met: Widths, w: u64) -> Widths
 {
     match met {
         Widths::None => Widths::All(w),
-        Widths::All(first) => {
-            if w == first {
-                return Widths::All(first);
-            }
-            Widths::Differ
-        }
-        Widths::Differ => Widths::Differ,
+        Widths::All(first) if first == w => met,
+        Widths::All(_) | Widths::Differ => Widths::Differ,
     }
 }
 

@@ -1,0 +1,11 @@
+use Rattle.operands.proofs.UseLaws.{covered, slice-uses}
+use Rattle.operands.proofs.uses.check_slice_use.Goals as goal
+
+pub returns-in_default : goal.returns-in_default
+returns-in_default c = search slice-uses
+
+pub measure_span-at-requires : goal.measure_span-at-requires
+measure_span-at-requires c = search covered
+
+pub returns : goal.returns
+returns c = search slice-uses
