@@ -13,6 +13,13 @@ use types::Typed;
 // The places of the texts, then two numbers for each key.
 pub type Index = [u64; 768];
 
+// A value that was read, and the place past it.
+#[derive(Clone, Copy)]
+pub struct Past<T> {
+    pub value: T,
+    pub next: usize,
+}
+
 // An Option of a number.
 #[derive(Clone, Copy)]
 pub enum Number {
