@@ -256,8 +256,7 @@ fn check_control(
     let next = a.next;
     let said = a.sink;
     let e = constants::eval_const_int(tree, at + 1, 32);
-    let value = e.value;
-    if constants::is_count(value) {
+    if constants::is_count(e.value) {
         return After { next, sink: said };
     }
     let span = span_at(tree, next);
