@@ -1,3 +1,1 @@
-pub mod Keys
-pub mod Loops
-pub mod Lookup
+pub mod Names

@@ -1,10 +1,9 @@
 -- The standard gates.
 -- Assumes nothing.
-use Rattle.std.specs.Prelude.{ℕ, ◌+◌, cond, ◌&&◌, List, [], ◌∷◌, map, ◌≡◌, refl, length, leb}
+use Rattle.std.specs.Prelude.{ℕ, ◌+◌, cond, ◌&&◌, Option, Some, None, List, [], ◌∷◌, map, ◌≡◌, refl, length, leb}
 use Prim.Native.String.{String}
 use Rattle.text.specs.Text.{text, same}
-use Rattle.gates.specs.declared.Signature.{Signature}
-use Rattle.gates.specs.declared.Signature.TheVariants.{Standard, None}
+use Rattle.gates.specs.declared.StandardGate.{StandardGate}
 
 pub record Gate : Type 0 where
   pub name : List ℕ
@@ -52,19 +51,19 @@ unfoldable pub lower : ℕ → ℕ
 lower b = cond (leb 65 b && leb b 90) (b + 32) b
 
 -- the signature of the first gate with a name
-unfoldable pub lookup : List ℕ → List Gate → Signature
+unfoldable pub lookup : List ℕ → List Gate → Option StandardGate
 lookup n [] = None
-lookup n (g ∷ gs) = cond (same n g.name) (Standard g.params g.qubits) (lookup n gs)
+lookup n (g ∷ gs) = cond (same n g.name) (Some (record { params = g.params; qubits = g.qubits })) (lookup n gs)
 
 -- of a name whose letters are lowered
-unfoldable pub signature_of : List ℕ → Signature
+unfoldable pub signature_of : List ℕ → Option StandardGate
 signature_of n = lookup n gates
 
 pub twenty_eight : length gates ≡ 28
 unfolding gates
 twenty_eight = refl
 
-lowered_name : signature_of (map lower (text "CNot")) ≡ Standard 0 2
+lowered_name : signature_of (map lower (text "CNot")) ≡ Some (record { params = 0; qubits = 2 })
 unfolding gates lower lookup signature_of
 lowered_name = refl
 

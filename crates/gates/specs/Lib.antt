@@ -1,2 +1,1 @@
 pub mod Gates
-pub mod Keys

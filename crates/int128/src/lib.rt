@@ -1,7 +1,7 @@
 // Whole numbers of 128 bits (i128 in the Rust): a sign, and a magnitude of two words.
 #![tactic(auto)]
 
-ghost use Rattle.std.specs.Prelude.{◌≡◌, false, not, ◌≤◌, ◌<◌, ◌+◌, ◌-◌, ◌*◌, ◌/◌, ◌%◌, ◌^◌, neg_ℤ, ◌+ℤ◌, ◌-ℤ◌, ◌*ℤ◌, eqb, ltb};
+ghost use Rattle.std.specs.Prelude.{◌≡◌, not, ◌≤◌, ◌<◌, ◌+◌, ◌-◌, ◌*◌, ◌/◌, ◌%◌, ◌^◌, neg_ℤ, ◌+ℤ◌, ◌-ℤ◌, ◌*ℤ◌, false};
 ghost use Rattle.std.specs.Bool.{xor};
 ghost use Rattle.int128.specs.Whole.{magnitude, magnitude_of, signed, value_of, int128, checked, divided, powered, positive, word_of};
 
@@ -11,29 +11,11 @@ pub struct Int128 {
     pub words: Words,
 }
 
-#[derive(Clone, Copy)]
-pub enum Checked {
-    Value(Int128),
-    None,
-}
-
-#[derive(Clone, Copy)]
-pub enum Word {
-    Fit(u64),
-    Unfit,
-}
-
-// A magnitude below 2^128.
-#[derive(Clone, Copy)]
+// A magnitude below 2^128. The derived order is the order of the magnitudes.
+#[derive(Clone, Copy, PartialEq, Eq, PartialOrd, Ord)]
 pub struct Words {
     pub hi: u64,
     pub lo: u64,
-}
-
-#[derive(Clone, Copy)]
-pub enum Magnitude {
-    Fits(Words),
-    Over,
 }
 
 #[derive(Clone, Copy)]
@@ -42,116 +24,51 @@ pub struct Division {
     pub remainder: Words,
 }
 
-const MAX: u64 = 18446744073709551615;
+const ZERO: Words = Words { hi: 0, lo: 0 };
 
-const HALF: u64 = 9223372036854775808;
+const HALF: u64 = 1 << 63;
 
-fn is_zero(w: Words) -> bool
-    ensures { result ≡ eqb (magnitude w) 0 }
-{
-    if w.hi == 0 {
-        return w.lo == 0;
-    }
-    false
-}
+// The magnitude of the least number.
+const LEAST: Words = Words { hi: HALF, lo: 0 };
 
-fn below(a: Words, b: Words) -> bool
-    ensures { result ≡ ltb (magnitude a) (magnitude b) }
-{
-    if a.hi < b.hi {
-        return true;
-    }
-    if b.hi < a.hi {
-        return false;
-    }
-    if a.lo < b.lo {
-        return true;
-    }
-    false
-}
-
-fn add_words(a: Words, b: Words) -> Magnitude
+fn add_words(a: Words, b: Words) -> Option<Words>
     ensures { result ≡ magnitude_of (magnitude a + magnitude b) }
 {
-    if MAX - b.hi < a.hi {
-        return Magnitude::Over;
-    }
-    let hi = a.hi + b.hi;
-    if MAX - b.lo < a.lo {
-        if hi == MAX {
-            return Magnitude::Over;
-        }
-        return Magnitude::Fits(Words {
-            hi: hi + 1,
-            lo: a.lo - (MAX - b.lo) - 1,
-        });
-    }
-    Magnitude::Fits(Words {
-        hi,
-        lo: a.lo + b.lo,
-    })
+    let (lo, carry) = a.lo.carrying_add(b.lo, false);
+    let hi = a.hi.checked_add(b.hi)?.checked_add(u64::from(carry))?;
+    Some(Words { hi, lo })
 }
 
 fn sub_words(a: Words, b: Words) -> Words
     requires { magnitude b ≤ magnitude a }
     ensures { magnitude result ≡ magnitude a - magnitude b }
 {
-    if a.lo < b.lo {
-        return Words {
-            hi: a.hi - b.hi - 1,
-            lo: a.lo + (MAX - b.lo) + 1,
-        };
-    }
+    let (lo, borrow) = a.lo.borrowing_sub(b.lo, false);
     Words {
-        hi: a.hi - b.hi,
-        lo: a.lo - b.lo,
+        hi: a.hi - b.hi - u64::from(borrow),
+        lo,
     }
 }
 
-// The whole product of two words, by halves of 32 bits.
-fn product(u: u64, v: u64) -> Words
-    ensures { magnitude result ≡ u * v }
-{
-    let u0 = u % 4294967296;
-    let u1 = u / 4294967296;
-    let v0 = v % 4294967296;
-    let v1 = v / 4294967296;
-    let w0 = u0 * v0;
-    let t = u1 * v0 + w0 / 4294967296;
-    let w1 = t % 4294967296 + u0 * v1;
-    Words {
-        hi: u1 * v1 + t / 4294967296 + w1 / 4294967296,
-        lo: w1 % 4294967296 * 4294967296 + w0 % 4294967296,
-    }
-}
-
-fn mul_word(a: Words, b: u64) -> Magnitude
+fn mul_word(a: Words, b: u64) -> Option<Words>
     ensures { result ≡ magnitude_of (magnitude a * b) }
 {
-    let q = product(a.hi, b);
-    let p = product(a.lo, b);
-    if 0 < q.hi {
-        return Magnitude::Over;
-    }
-    if MAX - p.hi < q.lo {
-        return Magnitude::Over;
-    }
-    Magnitude::Fits(Words {
-        hi: q.lo + p.hi,
-        lo: p.lo,
-    })
+    let (lo, carry) = a.lo.carrying_mul(b, 0);
+    let (hi, over) = a.hi.carrying_mul(b, carry);
+    (over == 0).then_some(Words { hi, lo })
 }
 
-fn mul_words(a: Words, b: Words) -> Magnitude
+#[tactic(auto, using(crate::proofs::Halves::high_times))]
+fn mul_words(a: Words, b: Words) -> Option<Words>
     ensures { result ≡ magnitude_of (magnitude a * magnitude b) }
 {
-    if 0 < a.hi {
-        if 0 < b.hi {
-            return Magnitude::Over;
-        }
-        return mul_word(a, b.lo);
+    if a.hi == 0 {
+        mul_word(b, a.lo)
+    } else if b.hi == 0 {
+        mul_word(a, b.lo)
+    } else {
+        None
     }
-    mul_word(b, a.lo)
 }
 
 // Twice a magnitude below 2^127.
@@ -172,19 +89,18 @@ fn halved(d: Division, b: Words) -> Division
 {
     let rest = d.remainder;
     let twice = double(d.quotient);
-    if below(rest, b) {
+    if rest < b {
         return Division {
             quotient: twice,
             remainder: rest,
         };
     }
-    let less = sub_words(rest, b);
     Division {
         quotient: Words {
             hi: twice.hi,
             lo: twice.lo + 1,
         },
-        remainder: less,
+        remainder: sub_words(rest, b),
     }
 }
 
@@ -193,17 +109,16 @@ fn divide(a: Words, b: Words) -> Division
     requires { 0 < magnitude b }
     ensures { (magnitude result.quotient ≡ magnitude a / magnitude b) × (magnitude result.remainder ≡ magnitude a % magnitude b) }
 {
-    if below(a, b) {
+    if a < b {
         return Division {
-            quotient: Words { hi: 0, lo: 0 },
+            quotient: ZERO,
             remainder: a,
         };
     }
     if HALF <= b.hi {
-        let rest = sub_words(a, b);
         return Division {
             quotient: Words { hi: 0, lo: 1 },
-            remainder: rest,
+            remainder: sub_words(a, b),
         };
     }
     halved(divide(a, double(b)), b)
@@ -214,86 +129,54 @@ fn div_words(a: Words, b: Words) -> Words
     requires { 0 < magnitude b }
     ensures { magnitude result ≡ magnitude a / magnitude b }
 {
-    if a.hi == 0 {
-        if b.hi == 0 {
-            return Words {
-                hi: 0,
-                lo: a.lo / b.lo,
-            };
-        }
+    if a.hi == 0 && b.hi == 0 {
+        return Words {
+            hi: 0,
+            lo: a.lo / b.lo,
+        };
     }
-    let d = divide(a, b);
-    d.quotient
+    divide(a, b).quotient
 }
 
 // By squaring: the exponent halves with each call, so at most 32 of them.
-fn pow_words(base: Words, exponent: u32) -> Magnitude
+fn pow_words(base: Words, exponent: u32) -> Option<Words>
     ensures { result ≡ magnitude_of (magnitude base ^ exponent) }
 {
     if exponent == 0 {
-        return Magnitude::Fits(Words { hi: 0, lo: 1 });
+        return Some(Words { hi: 0, lo: 1 });
     }
     if exponent == 1 {
-        return Magnitude::Fits(base);
+        return Some(base);
     }
-    let Magnitude::Fits(square) = mul_words(base, base) else {
-        return Magnitude::Over;
-    };
-    let half = pow_words(square, exponent / 2);
+    let square = mul_words(base, base)?;
+    let even = pow_words(square, exponent / 2)?;
     if exponent % 2 == 0 {
-        return half;
+        Some(even)
+    } else {
+        mul_words(even, base)
     }
-    let Magnitude::Fits(even) = half else {
-        return Magnitude::Over;
-    };
-    mul_words(even, base)
 }
 
 // The signed magnitude, where it lies within the range.
-fn fit(neg: bool, w: Words) -> Checked
-    ensures { result ≡ checked (signed neg (magnitude w)) }
+fn fit(neg: bool, words: Words) -> Option<Int128>
+    ensures { result ≡ checked (signed neg (magnitude words)) }
 {
-    let hi = w.hi;
-    let lo = w.lo;
-    if hi < HALF {
-        if hi == 0 {
-            if lo == 0 {
-                return Checked::Value(Int128 {
-                    neg: false,
-                    words: w,
-                });
-            }
-        }
-        return Checked::Value(Int128 { neg, words: w });
+    if words.hi < HALF {
+        let neg = neg && words != ZERO;
+        return Some(Int128 { neg, words });
     }
-    if neg {
-        if hi == HALF {
-            if lo == 0 {
-                return Checked::Value(Int128 { neg, words: w });
-            }
-        }
-    }
-    Checked::None
+    (neg && words == LEAST).then_some(Int128 { neg, words })
 }
 
 // The sum of magnitudes of different signs: the sign is that of the larger.
-fn differ(neg: bool, a: Words, b: Words) -> Checked
+fn differ(neg: bool, a: Words, b: Words) -> Option<Int128>
     ensures { result ≡ checked (signed neg (magnitude a) +ℤ signed (not neg) (magnitude b)) }
 {
-    if below(a, b) {
-        return fit(!neg, sub_words(b, a));
+    if a < b {
+        fit(!neg, sub_words(b, a))
+    } else {
+        fit(neg, sub_words(a, b))
     }
-    fit(neg, sub_words(a, b))
-}
-
-// Is exactly one of them true?
-fn unlike(a: bool, b: bool) -> bool
-    ensures { result ≡ xor a b }
-{
-    if a {
-        return !b;
-    }
-    b
 }
 
 impl Int128 {
@@ -306,93 +189,68 @@ impl Int128 {
         }
     }
 
-    pub fn checked_neg(self) -> Checked
+    pub fn checked_neg(self) -> Option<Self>
         ensures { result ≡ checked (neg_ℤ (value_of self)) }
     {
         fit(!self.neg, self.words)
     }
 
-    pub fn checked_add(self, other: Self) -> Checked
+    pub fn checked_add(self, other: Self) -> Option<Self>
         ensures { result ≡ checked (value_of self +ℤ value_of other) }
     {
-        if unlike(self.neg, other.neg) {
+        if self.neg != other.neg {
             return differ(self.neg, self.words, other.words);
         }
-        let Magnitude::Fits(sum) = add_words(self.words, other.words) else {
-            return Checked::None;
-        };
-        fit(self.neg, sum)
+        fit(self.neg, add_words(self.words, other.words)?)
     }
 
-    pub fn checked_sub(self, other: Self) -> Checked
+    pub fn checked_sub(self, other: Self) -> Option<Self>
         ensures { result ≡ checked (value_of self -ℤ value_of other) }
     {
-        let words = other.words;
         self.checked_add(Self {
             neg: !other.neg,
-            words,
+            words: other.words,
         })
     }
 
-    pub fn checked_mul(self, other: Self) -> Checked
+    pub fn checked_mul(self, other: Self) -> Option<Self>
         ensures { result ≡ checked (value_of self *ℤ value_of other) }
     {
-        let Magnitude::Fits(product) = mul_words(self.words, other.words) else {
-            return Checked::None;
-        };
-        fit(unlike(self.neg, other.neg), product)
+        let product = mul_words(self.words, other.words)?;
+        fit(self.neg != other.neg, product)
     }
 
-    pub fn checked_div(self, other: Self) -> Checked
+    pub fn checked_div(self, other: Self) -> Option<Self>
         ensures { result ≡ divided (value_of self) (value_of other) }
     {
-        if is_zero(other.words) {
-            return Checked::None;
+        if other.words == ZERO {
+            return None;
         }
         let quotient = div_words(self.words, other.words);
-        fit(unlike(self.neg, other.neg), quotient)
+        fit(self.neg != other.neg, quotient)
     }
 
     // The exponent is from 0 to 2^32 - 1.
-    pub fn checked_pow(self, exponent: Self) -> Checked
+    pub fn checked_pow(self, exponent: Self) -> Option<Self>
         ensures { result ≡ powered (value_of self) (value_of exponent) }
     {
-        let Word::Fit(n) = exponent.to_u64() else {
-            return Checked::None;
-        };
-        if 4294967296 <= n {
-            return Checked::None;
-        }
-        let Magnitude::Fits(power) = pow_words(self.words, n as u32) else {
-            return Checked::None;
-        };
-        if n % 2 == 0 {
-            return fit(false, power);
-        }
-        fit(self.neg, power)
+        let n = u32::try_from(exponent.to_u64()?).ok()?;
+        let power = pow_words(self.words, n)?;
+        fit(self.neg && n % 2 == 1, power)
     }
 
+    #[tactic(auto, unfolding(crate::specs::Whole::positive))]
     pub fn is_positive(self) -> bool
         ensures { result ≡ positive (value_of self) }
     {
-        if self.neg {
-            return false;
-        }
-        !is_zero(self.words)
+        !self.neg && self.words != ZERO
     }
 
-    pub fn to_u64(self) -> Word
+    #[tactic(auto, unfolding(crate::specs::Whole::word_of))]
+    pub fn to_u64(self) -> Option<u64>
         ensures { result ≡ word_of (value_of self) }
     {
-        let w = self.words;
-        if 0 < w.hi {
-            return Word::Unfit;
-        }
-        if self.neg {
-            if 0 < w.lo {
-                return Word::Unfit;
-            }
-        }
-        Word::Fit(w.lo)
+        let Words { hi, lo } = self.words;
+        (hi == 0 && (lo == 0 || !self.neg)).then_some(lo)
     }
 }

@@ -7,11 +7,12 @@ use mathlib.Core.Bool.{Bool, true, false, and-eq-true_iff}
 use native.Mathlib.Omega.{arith}
 use native.Mathlib.Nat.{add_comm}
 use lib.ListN.{get_or}
+use Rattle.std.specs.Prelude.{Option, Some, None}
 use lib.Dec.{eqb}
 use borrow.Author.Tests.{eqb-true, eqb-false, eq-eqb, ne_eqb}
 use Rattle.ast.specs.Tree.{Text}
 use Rattle.gates.specs.Gates.{lower, signature_of}
-use Rattle.gates.specs.declared.Signature.{Signature}
+use Rattle.gates.specs.declared.StandardGate.{StandardGate}
 use Rattle.sema.specs.Messages
 use Rattle.sema.specs.Symbols.{GateSig, Table}
 use Rattle.sema.specs.Operands.{unless}
@@ -76,19 +77,19 @@ module _ {t : List Text} (c : Call) (n : ℕ) (decl : Maybe (Note × Span)) {s :
         (ap (λ (k : ℕ). unless (eqb c.args (n + c.controls)) (noted (Messages.gate_qubits c.name k c.args) c.span (secondary_of decl))) (add_comm c.controls n))
 
 -- a standard gate, or none
-module _ (t : List Text) (c : Call) {text : List ℕ} (e : Shown text (name_at t c.name) 64) {f : Signature} (g : f ≡ signature_of (map lower text)) where
+module _ (t : List Text) (c : Call) {text : List ℕ} (e : Shown text (name_at t c.name) 64) {f : Option StandardGate} (g : f ≡ signature_of (map lower text)) where
   signature_is : f ≡ signature_of (map lower (get_or t c.name []))
   unfolding name_at
   signature_is = g ∙ ap (λ x. signature_of (map lower x)) e.shows
 
-  pub standard_some : {s : Sink} {o : List ℕ} {r : Sink} {o' : List ℕ} (p q : ℕ) → f ≡ Signature.Standard p q → Emitted t (arity_by c p q none) s o r o' → Emitted t (standard_of t c) s o r o'
+  pub standard_some : {s : Sink} {o : List ℕ} {r : Sink} {o' : List ℕ} (gate : StandardGate) → f ≡ Some gate → Emitted t (arity_by c gate.params gate.qubits none) s o r o' → Emitted t (standard_of t c) s o r o'
   unfolding standard_by
-  standard_some p q k m = emitted_as m (ap (standard_by c) (sym k ∙ signature_is))
+  standard_some gate k m = emitted_as m (ap (standard_by c) (sym k ∙ signature_is))
 
-  pub standard_fits : {s : Sink} {o : List ℕ} (p q : ℕ) (b : Bool) → f ≡ Signature.Standard p q → b ≡ fits_arity c p q → b ≡ true → SinkFits s → Emitted t (standard_of t c) s o s o
-  standard_fits p q b k is h m = standard_some p q k (arity_fits c p q None b is h m)
+  pub standard_fits : {s : Sink} {o : List ℕ} (gate : StandardGate) (b : Bool) → f ≡ Some gate → b ≡ fits_arity c gate.params gate.qubits → b ≡ true → SinkFits s → Emitted t (standard_of t c) s o s o
+  standard_fits gate b k is h m = standard_some gate k (arity_fits c gate.params gate.qubits None b is h m)
 
-  pub standard_none : {s : Sink} {o : List ℕ} {r : Sink} {o' : List ℕ} {d : DiagnosticValue} → f ≡ Signature.None → d ≡ error_of (Message.GateNotDefined c.name) c.span → Reported t d s o r o' → Emitted t (standard_of t c) s o r o'
+  pub standard_none : {s : Sink} {o : List ℕ} {r : Sink} {o' : List ℕ} {d : DiagnosticValue} → f ≡ None → d ≡ error_of (Message.GateNotDefined c.name) c.span → Reported t d s o r o' → Emitted t (standard_of t c) s o r o'
   unfolding standard_by
   standard_none k l m = emitted_as (emitted-one (rw l at m)) (ap (standard_by c) (sym k ∙ signature_is))
 

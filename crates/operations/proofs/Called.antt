@@ -4,9 +4,11 @@ use mathlib.Core.Path.{◌≡◌, refl, ap, ◌∙◌}
 use mathlib.Core.List.{List, [], ◌++◌, append_assoc}
 use mathlib.Core.Option.{Option, none, some}
 use lib.ListN.{length, get_or}
+use Rattle.std.specs.Prelude.{Some, None}
+use Rattle.std.specs.Prelude as rust
 use Rattle.span.specs.declared.Span.{Span}
 use Rattle.ast.specs.Tree.{Text, Exprs, no_expr, more_expr, GateModifier, GateOperand, Stmt, expr_count}
-use Rattle.gates.specs.declared.Signature.{Signature}
+use Rattle.gates.specs.declared.StandardGate.{StandardGate}
 use Rattle.tree.specs.Ans.{Ans, ok, IsOk, next_of, given}
 use Rattle.tree.specs.Read.{vec}
 use Rattle.tree.specs.Exprs.{exprs}
@@ -62,10 +64,10 @@ module _ (t : List Text) (c : Call) (ps : Exprs) (ms : List GateModifier) (ops :
   unfolding arity_says
   arity_some params qubits at = rw (p, k, a)
 
-  standard_is : (f : Signature) → standard_by c f ≡ standard_says t c.name ps ms ops c.span f
+  standard_is : (f : rust.Option StandardGate) → standard_by c f ≡ standard_says t c.name ps ms ops c.span f
   unfolding standard_by standard_says
-  standard_is Signature.None = refl
-  standard_is (Signature.Standard params qubits) = arity_none params qubits
+  standard_is None = refl
+  standard_is (Some gate) = arity_none gate.params gate.qubits
 
   signature_says_lem : (d : SemaContext) → signature_by t d.gates c ≡ signature_says t d c.name ps ms ops c.span
   unfolding signature_by signature_says

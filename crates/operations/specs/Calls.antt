@@ -1,10 +1,11 @@
 -- A gate call by its numbers, and what is said of its arity.
-use Rattle.std.specs.Prelude.{ℕ, ◌+◌, ◌≡◌, List, [], ◌∷◌, ◌++◌, map, Bool, ◌&&◌, length, get_or, eqb}
+use Rattle.std.specs.Prelude.{ℕ, ◌+◌, ◌≡◌, List, [], ◌∷◌, ◌++◌, map, Bool, ◌&&◌, length, get_or, eqb, Some, None}
+use Rattle.std.specs.Prelude as rust
 use Rattle.std.proofs.Math.Option.{Option, none, some}
 use Rattle.span.specs.declared.Span.{Span}
 use Rattle.ast.specs.Tree.{Text, no_expr, expr_count}
 use Rattle.gates.specs.Gates.{lower, signature_of}
-use Rattle.gates.specs.declared.Signature.{Signature}
+use Rattle.gates.specs.declared.StandardGate.{StandardGate}
 use Rattle.tree.specs.Ans.{next_of}
 use Rattle.tree.specs.Read.{vec}
 use Rattle.tree.specs.Exprs.{exprs}
@@ -47,9 +48,9 @@ fits_arity c params qubits = eqb c.params params && eqb c.args (qubits + c.contr
 abbrev pub arity_by : Call → ℕ → ℕ → Option (Note × Span) → List Diagnostic
 arity_by c params qubits note = params_by c params note ++ qubits_by c qubits note
 
-unfoldable pub standard_by : Call → Signature → List Diagnostic
-standard_by c Signature.None = error (Messages.gate_not_defined c.name) c.span ∷ []
-standard_by c (Signature.Standard params qubits) = arity_by c params qubits none
+unfoldable pub standard_by : Call → rust.Option StandardGate → List Diagnostic
+standard_by c None = error (Messages.gate_not_defined c.name) c.span ∷ []
+standard_by c (Some gate) = arity_by c gate.params gate.qubits none
 
 abbrev pub standard_of : List Text → Call → List Diagnostic
 standard_of t c = standard_by c (signature_of (map lower (get_or t c.name [])))

@@ -1,6 +1,5 @@
 // What a gate call says.
 ghost use Rattle.std.specs.Prelude.{◌≡◌, [], ◌++◌, ◌+◌, ◌≤◌, ◌<◌, length, get_or, eqb};
-ghost use Rattle.sema.specs.Constants.{or0};
 ghost use Rattle.ast.specs.Tree.{no_expr};
 ghost use Rattle.tree.specs.Ans.{IsOk, next_of};
 ghost use Rattle.tree.specs.Read.{vec};
@@ -13,7 +12,6 @@ ghost use Rattle.sema.specs.Stmts.{params_say, widths_say, register_widths};
 ghost use Rattle.context.specs.Sink.{SinkFits};
 ghost use Rattle.context.specs.View.{TextsAt, Placed, scopes_of, gates_of, functions_of, keys_in, marks_of};
 ghost use Rattle.accepted.specs.Parts.{value_or};
-ghost use Rattle.constants.specs.Views.{total_of};
 ghost use Rattle.lines.specs.Values.{secondary_of, NoteBelow};
 ghost use Rattle.promises.specs.Emitted.{Emitted};
 ghost use Rattle.promises.specs.Typings.{plain_context};
@@ -23,9 +21,7 @@ ghost use Rattle.operations.specs.Calls.{CallOf, params_by, qubits_by, fits_arit
 use accepted::exprs::skip_exprs;
 use accepted::numbers::{span_at, u16_at};
 use accepted::parts::skip_operands;
-use constants::Total;
-use context::{Index, Sink};
-use gates::Signature;
+use context::{GateSig, Index, Sink};
 use lines::pieces::name_of;
 use lines::{Diagnostic, Message, Note, Severity};
 use span::Span;
@@ -44,29 +40,19 @@ pub struct Call {
     pub span: Span,
 }
 
-// 0 for arity where there is no total.
-fn total_or_0(controls: Total) -> u64
-    ensures { result ≡ or0 (total_of controls) }
-{
-    let Total::Some(n) = controls else {
-        return 0;
-    };
-    n
-}
-
 pub fn call_at(tree: &[u8], at: usize, left: usize) -> Call
     requires { IsOk (stmt (texts_of tree.now) left tree.now at) × (get_or tree.now at 0 ≡ 5) }
     ensures { CallOf (texts_of tree.now) tree.now at result }
 {
     let c = constants::modifier_control_count(tree, at + 3);
-    let sum = c.total;
     let params_at = c.next;
     let args_at = skip_exprs(tree, params_at, 32);
     let end = skip_operands(tree, args_at);
     let name = u16_at(tree, at + 1);
     let params = wide(tree[params_at]);
     let args = wide(tree[args_at]);
-    let controls = total_or_0(sum);
+    // 0 for arity where there is no total
+    let controls = c.value.unwrap_or(0);
     let span = span_at(tree, end);
     Call {
         name,
@@ -181,8 +167,8 @@ fn check_standard(tree: &[u8], index: &Index, out: &mut [u8], call: Call, sink: 
     let name = call.name;
     let standard = gates::standard_gate_signature(name_of(tree, index, name));
     match standard {
-        Signature::Standard { params, qubits } => {
-            if fits_arity(call, params, qubits) {
+        Some(gate) => {
+            if fits_arity(call, gate.params, gate.qubits) {
                 return sink;
             }
             report_arity(
@@ -190,13 +176,13 @@ fn check_standard(tree: &[u8], index: &Index, out: &mut [u8], call: Call, sink: 
                 index,
                 out,
                 call,
-                params,
-                qubits,
+                gate.params,
+                gate.qubits,
                 None,
                 sink,
             )
         }
-        Signature::None => {
+        None => {
             let span = call.span;
             lines::report(
                 out,

@@ -6,6 +6,8 @@ use mathlib.Core.Option.{Option, none, some}
 use mathlib.Core.List.{List, [], ◌∷◌, map}
 use lib.ListN.{length, get_or}
 use lib.Dec.{eqb}
+use Rattle.std.specs.Prelude.{Some, None}
+use Rattle.std.specs.Prelude as rust
 use Rattle.span.specs.declared.Span.{Span}
 use Rattle.ast.specs.Tree.{Text, TextNumber, Expr, Exprs, no_expr, more_expr, GateOperand, GateModifier, ForRange, expr_count}
 use Rattle.ast.specs.declared.ClassicalType.{ClassicalType}
@@ -13,7 +15,7 @@ use Rattle.ast.specs.declared.ClassicalQualifier.{ClassicalQualifier}
 use Rattle.ast.specs.declared.AssignOp.{AssignOp}
 use Rattle.types.specs.Types.{number_of, assignable_to, numeric}
 use Rattle.gates.specs.Gates.{lower, signature_of}
-use Rattle.gates.specs.declared.Signature.{Signature}
+use Rattle.gates.specs.declared.StandardGate.{StandardGate}
 use Rattle.sema.specs.Messages
 use Rattle.sema.specs.Messages.{SymbolKind, Qubit, Bit, Classical, Const, GateParam, GateQubit, a_qubit, a_bit}
 use Rattle.sema.specs.Symbols.{Symbols, FunctionSig, Table, get, get_current, declare_says, function_scope}
@@ -90,11 +92,11 @@ silent_widths sp [] = silent refl
 silent_widths sp (w ∷ ws) = silent-unless (all_equal w (w ∷ ws)) (silent refl)
 
 module _ (t : List Text) where
-  silent_standard : (x : TextNumber) (params : Exprs) (ms : List GateModifier) (args : List GateOperand) (sp : Span) (sig : Signature)
+  silent_standard : (x : TextNumber) (params : Exprs) (ms : List GateModifier) (args : List GateOperand) (sp : Span) (sig : rust.Option StandardGate)
       → Silent (standard_says t x params ms args sp sig)
   unfolding standard_says
-  silent_standard x params ms args sp Signature.None = silent refl
-  silent_standard x params ms args sp (Signature.Standard p q) = silent_arity x p q none params ms args sp
+  silent_standard x params ms args sp None = silent refl
+  silent_standard x params ms args sp (Some gate) = silent_arity x gate.params gate.qubits none params ms args sp
 
   pub silent-signature : (c : SemaContext) (x : TextNumber) (params : Exprs) (ms : List GateModifier) (args : List GateOperand) (sp : Span)
       → Silent (signature_says t c x params ms args sp)

@@ -1,6 +1,7 @@
 -- The analysis of statements, as `analyze_stmt`, `analyze_stmts` and `analyze` of src/sema.rs, over the program's texts `t`.
 -- A statement gives the context after it and what is said of it.
-use Rattle.std.specs.Prelude.{ℕ, ◌+◌, List, [], ◌∷◌, ◌++◌, map, Bool, true, false, cond, ◌&&◌, ◌||◌, not, length, get_or, eqb, ltb}
+use Rattle.std.specs.Prelude.{ℕ, ◌+◌, List, [], ◌∷◌, ◌++◌, map, Bool, true, false, cond, ◌&&◌, ◌||◌, not, length, get_or, eqb, ltb, Some, None}
+use Rattle.std.specs.Prelude as rust
 use Rattle.std.proofs.Math.Option.{Option, none, some}
 use Rattle.span.specs.declared.Span.{Span}
 use Rattle.ast.specs.Tree.{Text, TextNumber, Expr, Exprs, no_expr, more_expr, GateOperand, GateModifier, ForRange, Stmt, Stmts, no_stmt, more_stmt, Else, no_else, some_else, Program, expr_count}
@@ -9,7 +10,7 @@ use Rattle.ast.specs.declared.ClassicalQualifier.{ClassicalQualifier}
 use Rattle.ast.specs.declared.AssignOp.{AssignOp}
 use Rattle.types.specs.Types.{number_of, assignable_to, numeric}
 use Rattle.gates.specs.Gates.{lower, signature_of}
-use Rattle.gates.specs.declared.Signature.{Signature}
+use Rattle.gates.specs.declared.StandardGate.{StandardGate}
 use Rattle.sema.specs.Messages
 use Rattle.sema.specs.Messages.{SymbolKind, Qubit, Bit, Classical, Const, GateParam, GateQubit, a_qubit, a_bit, Diagnostic, error, error_with_note, warning}
 use Rattle.sema.specs.Symbols.{Symbols, Scope, GateSig, FunctionSig, Table, empty, insert, get, declare_says, after, gate_scope, function_scope, loop_scope}
@@ -188,9 +189,9 @@ function_says c x params return_type body sp =
     ++ (a.says ++ mismatch (λ actual. error (Messages.function_returns x return_type actual) (expr_span body)) return_type a.type)
 
 module _ (t : List Text) where
-  unfoldable pub standard_says : TextNumber → Exprs → List GateModifier → List GateOperand → Span → Signature → List Diagnostic
-  standard_says x params modifiers args sp Signature.None = error (Messages.gate_not_defined x) sp ∷ []
-  standard_says x params modifiers args sp (Signature.Standard p q) = arity_says x p q none params modifiers args sp
+  unfoldable pub standard_says : TextNumber → Exprs → List GateModifier → List GateOperand → Span → rust.Option StandardGate → List Diagnostic
+  standard_says x params modifiers args sp None = error (Messages.gate_not_defined x) sp ∷ []
+  standard_says x params modifiers args sp (Some gate) = arity_says x gate.params gate.qubits none params modifiers args sp
 
   -- "A definition of exactly that name goes before it"
   unfoldable pub signature_says : SemaContext → TextNumber → Exprs → List GateModifier → List GateOperand → Span → List Diagnostic

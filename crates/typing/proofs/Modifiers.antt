@@ -28,7 +28,9 @@ use Rattle.accepted.specs.Cases.{blank}
 use Rattle.accepted.specs.Parts.{next_is, given_is, given_ok}
 use Rattle.accepted.specs.Fields.{option-none, option-held, option-some}
 use Rattle.accepted.specs.Operands as of
-use Rattle.constants.specs.declared.Evaluated.{Evaluated}
+use Rattle.std.specs.Prelude as rust
+use Rattle.int128.specs.declared.Int128.{Int128}
+use Rattle.context.specs.declared.Past.{Past}
 use Rattle.constants.specs.Views.{whole_of, is_count, ValueOf}
 use Rattle.constants.specs.Laws.{count_test}
 use Rattle.promises.specs.Emitted.{Emitted, emitted-none, emitted_then, emitted_as, unless_holds, unless_fails}
@@ -47,7 +49,7 @@ module _ (t : List Text) (ss : Symbols) (fs : Table FunctionSig) (s : List ℕ) 
         let is = option-none s at (held t) h z in
         record { next = sym (next_is is); emitted = emitted_as (emitted-none f) (sym (given_is is [] (λ arg. control_says ss fs arg (span-behind t s at)))) }
 
-    module _ (z : get_or s at 0 ≡ 0 → ⊥) {a : After} {o₁ : List ℕ} (p : SaidOf t (λ e. require_type ss fs e ClassicalType.Int Messages.control_argument) (held t s (at + 1)) k o a o₁) {e : Evaluated} (v : ValueOf (held t s (at + 1)) e) {b : Bool} (c : b ≡ is_count (whole_of e.value)) where
+    module _ (z : get_or s at 0 ≡ 0 → ⊥) {a : After} {o₁ : List ℕ} (p : SaidOf t (λ e. require_type ss fs e ClassicalType.Int Messages.control_argument) (held t s (at + 1)) k o a o₁) {e : Past (rust.Option Int128)} (v : ValueOf (held t s (at + 1)) e) {b : Bool} (c : b ≡ is_count (whole_of e.value)) where
       control-some : {r : Sink} {o₂ : List ℕ} → Emitted t (unless b (error Messages.control_count (span-behind t s at))) a.sink o₁ r o₂ → SaidOf t (λ arg. control_says ss fs arg (span-behind t s at)) (option (held t) s at) k o (record { next = a.next; sink = r }) o₂
       unfolding control_says
       control-some q =

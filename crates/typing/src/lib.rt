@@ -182,8 +182,7 @@ fn check_control(sema: SemaContext<'_>, out: &mut [u8], at: usize, sink: Sink) -
     let next = a.next;
     let said = a.sink;
     let e = constants::eval_const_int(sema.tree, at + 1, 32);
-    let value = e.value;
-    if constants::is_count(value) {
+    if constants::is_count(e.value) {
         return After { next, sink: said };
     }
     let span = span_at(sema.tree, next);

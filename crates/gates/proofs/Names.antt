@@ -1,0 +1,71 @@
+-- A name of a known length, letter by letter. Assumes nothing.
+use Rattle.std.proofs.Common.{◌≡◌, ℕ, zero, suc, ◌+◌, ◌<◌, List, [], ◌∷◌, Bool, true, false, ◌&&◌, map, length, get_or, drop, None, refl, sym, ap, ◌∙◌, arith}
+use borrow.Author.Tests.{eq-eqb, ne_eqb}
+use Rattle.std.proofs.Math.ListN.{length-map}
+use Rattle.std.specs.Char.{to_ascii_lowercase}
+use Rattle.std.proofs.lemmas.Bool.Decides.{nat_tests}
+use Rattle.std.proofs.Math.Seq.{drop-cons, drop-length}
+use Rattle.gates.specs.Gates.{lower, gates, lookup, signature_of}
+
+-- k letters from i on
+abbrev pub letters : ℕ → ℕ → List ℕ → List ℕ
+letters i zero n = []
+letters i (suc k) n = get_or n i 0 ∷ letters (suc i) k n
+
+spelled : (i k : ℕ) (n : List ℕ) → length n ≡ i + k → drop i n ≡ letters i k n
+spelled i zero n h = let e : i ≡ length n = omega arith in rw e (drop-length n)
+spelled i (suc k) n h = let l : i < length n = omega arith in rw (drop-cons n i 0) (ap (λ (x : List ℕ). get_or n i 0 ∷ x) (spelled (suc i) k n (omega arith)))
+
+by_letters : (k : ℕ) (n : List ℕ) → length n ≡ k → signature_of n ≡ lookup (letters 0 k n) gates
+unfolding signature_of
+by_letters k n h = ap (λ (x : List ℕ). lookup x gates) (spelled 0 k n (omega arith))
+
+pub zero_letters : (n : List ℕ) → length n ≡ 0 → signature_of n ≡ lookup (letters 0 0 n) gates
+zero_letters = by_letters 0
+
+pub one_letter : (n : List ℕ) → length n ≡ 1 → signature_of n ≡ lookup (letters 0 1 n) gates
+one_letter = by_letters 1
+
+pub two_letters : (n : List ℕ) → length n ≡ 2 → signature_of n ≡ lookup (letters 0 2 n) gates
+two_letters = by_letters 2
+
+pub three_letters : (n : List ℕ) → length n ≡ 3 → signature_of n ≡ lookup (letters 0 3 n) gates
+three_letters = by_letters 3
+
+pub four_letters : (n : List ℕ) → length n ≡ 4 → signature_of n ≡ lookup (letters 0 4 n) gates
+four_letters = by_letters 4
+
+pub five_letters : (n : List ℕ) → length n ≡ 5 → signature_of n ≡ lookup (letters 0 5 n) gates
+five_letters = by_letters 5
+
+pub six_letters : (n : List ℕ) → length n ≡ 6 → signature_of n ≡ lookup (letters 0 6 n) gates
+six_letters = by_letters 6
+
+pub and_false : (b : Bool) → (b && false) ≡ false
+and_false true = refl
+and_false false = refl
+
+pub long : (n : List ℕ) → 6 < length n → signature_of n ≡ None
+unfolding signature_of lookup gates
+long [] h = absurd (omega arith)
+long (a ∷ []) h = absurd (omega arith)
+long (a ∷ b ∷ []) h = absurd (omega arith)
+long (a ∷ b ∷ c ∷ []) h = absurd (omega arith)
+long (a ∷ b ∷ c ∷ d ∷ []) h = absurd (omega arith)
+long (a ∷ b ∷ c ∷ d ∷ e ∷ []) h = absurd (omega arith)
+long (a ∷ b ∷ c ∷ d ∷ e ∷ f ∷ []) h = absurd (omega arith)
+long (a ∷ b ∷ c ∷ d ∷ e ∷ f ∷ g ∷ n) h = simp and_false
+
+pub ruleset names = (zero_letters, one_letter, two_letters, three_letters, four_letters, five_letters, six_letters, long, and_false, eq-eqb, ne_eqb)
+
+-- std's lower case of ASCII
+lower_is : (b : ℕ) → to_ascii_lowercase b ≡ lower b
+unfolding lower
+lower_is b = grind (arith, nat_tests)
+
+pub lowered_is : (n : List ℕ) → map to_ascii_lowercase n ≡ map lower n
+lowered_is [] = refl
+lowered_is (b ∷ n) = rw (lower_is b, lowered_is n)
+
+pub long_lowered : (n : List ℕ) → 6 < length n → signature_of (map lower n) ≡ None
+long_lowered n h = long (map lower n) (simp length-map h)
