@@ -5,9 +5,10 @@ use mathlib.Core.List.{List, ◌∷◌}
 use mathlib.Core.Logic.{inl, inr}
 use mathlib.Core.Option.{some}
 use native.Mathlib.Omega.{arith}
-use native.Mathlib.Decide.{dec_le}
-use lib.ListN.{length, get_or, set, length-set}
-use lib.Seq.{sets, get_or-set_same, get_or-set_other}
+use lib.ListN.{length, get_or, set, replicate, length-set}
+use lib.Seq.{sets, get_or-set_same}
+use Rattle.std.proofs.lemmas.List.{length-replicate, get_or-replicate}
+use borrow.Rule.Slice.PartMut.{put_mid, mid_of}
 use Rattle.span.specs.declared.Span.{Span}
 use Rattle.ast.specs.declared.ClassicalType.{ClassicalType}
 use Rattle.tree.specs.Fits.{SpanFits}
@@ -16,6 +17,7 @@ use Rattle.context.specs.View.{symbol_at, code_place, symbol_place, scopes_of, g
 use Rattle.tables.specs.Entries.{SymbolFits, code_of, symbol_bytes, gate_bytes, type_bytes, function_bytes}
 use Rattle.tables.specs.Tables.{tables_end, Becomes, Inserted, Entered, Begun, GateDefined, FunctionDefined, FewParams, function_in}
 use Rattle.tables.specs.Laws.{scope_empty, gates-empty, functions-empty, length_types}
+use Rattle.tables.proofs.Bytes.{put_zeros}
 use Rattle.tables.proofs.Frame.{Outside, outside-none, outside_set, outside-sets, same_drop}
 use Rattle.tables.proofs.Alike.{stored, symbol_by_lem, gate-alike, function_alike}
 use Rattle.tables.proofs.Back.{length-symbol, symbol-back, length-gate, gate-back, length_function, function_count, function_back}
@@ -57,39 +59,34 @@ inserted s t depth x v room inner few small e h =
     let n : suc (depth - 1) ≡ depth = omega arith in
     rw n at (inserted_at s t (depth - 1) x v room (omega arith) small e h)
 
--- some bytes from a place on, of which the first i are cleared
-pub record Emptying (s : List ℕ) (base size : ℕ) (t : List ℕ) (i : ℕ) : Type 0 where
-  pub within : i ≤ size
+-- some bytes from a place on are cleared
+pub record Emptied (s : List ℕ) (base size : ℕ) (t : List ℕ) : Type 0 where
   pub outside : Outside base (base + size) s t
-  pub zeros : (j : ℕ) → j < i → get_or t (base + j) 0 ≡ 0
+  pub zeros : (j : ℕ) → j < size → get_or t (base + j) 0 ≡ 0
 
-pub emptying_start : (s : List ℕ) (base size : ℕ) → Emptying s base size s 0
-emptying_start s base size = record { within = omega arith; outside = outside-none base (base + size) s; zeros = λ j h. absurd (omega arith) }
-
-pub emptying_more : {s : List ℕ} {base size : ℕ} {t : List ℕ} {i : ℕ} → Emptying s base size t i → i < size → base + i < length t → Emptying s base size (set t (base + i) 0) (i + 1)
-emptying_more {base = base} {t = t} {i = i} r h room =
-    record {
-      within = omega arith;
-      outside = outside_set (base + i) 0 r.outside (omega arith) (omega arith);
+pub emptied : (s z : List ℕ) (base k size : ℕ) → z ≡ replicate (length (mid_of base k s)) 0 → k ≡ size → base + size ≤ length s → Emptied s base size (put_mid base k s z)
+emptied s z base k size e f h =
+    let n : length (replicate {A = ℕ} size 0) ≡ size = length-replicate {A = ℕ} size 0 in
+    rw (put_zeros base k s z size e f h)
+    (record {
+      outside = outside-sets (replicate size 0) base (outside-none base (base + size) s) (omega arith) (omega arith);
       zeros = λ j l.
-          elim (dec_le i j) [
-            | yes g ↦ (let e : j ≡ i = omega arith in rw e (get_or-set_same t (base + i) 0 0 room))
-            | no g ↦ get_or-set_other t (base + i) (base + j) 0 0 (omega arith) ∙ r.zeros j (omega arith)
-          ];
-    }
+          let z : 0 + j ≡ j = omega arith in
+          (stored s (replicate size 0) base (omega arith)).byte j (omega arith) ∙ rw z (get_or-replicate size j 0 0 l);
+    })
 
 -- a scope entered: the codes of its level are cleared
-pub entered : {s t : List ℕ} {depth i : ℕ} → depth < 9 → 256 ≤ i → Emptying s (depth * 4608) 256 t i → Entered s t depth
+pub entered : {s t : List ℕ} {depth : ℕ} → depth < 9 → Emptied s (depth * 4608) 256 t → Entered s t depth
 unfolding scopes_of
-entered {s = s} {t = t} {depth = depth} few h r =
+entered {s = s} {t = t} {depth = depth} few r =
     let o = r.outside in
     let top = scope_empty t depth (λ x l. r.zeros x (omega arith)) in
     in_scopes o (omega arith) (ap₂ (λ (c : Scope) (ss : Symbols). c ∷ ss) top (scopes_kept o depth (omega arith)))
 
 -- a walk begun: the first scope entered, the gates and functions cleared
-pub begun : {s t u : List ℕ} {i : ℕ} → Entered s t 0 → 9728 ≤ i → Emptying t gate_base 9728 u i → Begun s u
+pub begun : {s t u : List ℕ} → Entered s t 0 → Emptied t gate_base 9728 u → Begun s u
 unfolding scopes_of
-begun {u = u} b h r =
+begun {u = u} b r =
     let o = r.outside in
     record {
       scopes_are = scopes_kept o 1 (omega arith) ∙ b.scopes_are;

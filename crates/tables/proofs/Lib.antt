@@ -7,4 +7,3 @@ pub mod Alike
 pub mod Changes
 pub mod Back
 pub mod Becoming
-pub mod Found

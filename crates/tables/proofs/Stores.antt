@@ -1,13 +1,12 @@
 -- An entry's fields stored one after the other are the entry stored. Assumes nothing.
 use Prim.Native.Nat.{ℕ, suc, ◌+◌, ◌-◌, ◌*◌, ◌≤◌, ◌<◌}
-use mathlib.Core.Path.{◌≡◌, refl, sym, ap, ◌∙◌, subst}
+use mathlib.Core.Path.{◌≡◌, refl, sym, ap, ◌∙◌}
 use mathlib.Core.List.{List, [], ◌∷◌, ◌++◌, append-nil}
 use mathlib.Core.Option.{Option, none, some}
 use native.Mathlib.Omega.{arith}
 use native.Mathlib.Numerals.{add-one, towards_suc}
-use lib.ListN.{length, get_or, set, drop, replicate, length-set}
-use lib.Seq.{sets}
-use borrow.Author.Fill.{fill_none, fill_more}
+use lib.ListN.{length, get_or, set, take, drop, replicate}
+use lib.Seq.{sets, length-take-le}
 use Rattle.span.specs.declared.Span.{Span}
 use Rattle.ast.specs.declared.ClassicalType.{ClassicalType}
 use Rattle.types.specs.Types.{number_of}
@@ -33,15 +32,13 @@ unfolding big
 length-size none = refl
 length-size (some n) = refl
 
--- a byte, and more behind it
-pub headed : (s t u : List ℕ) (at b : ℕ) (xs : List ℕ) → t ≡ set s at b → u ≡ sets t (at + 1) xs → u ≡ sets s at (b ∷ xs)
-headed s t u at b xs e f = rw (add-one, e) at f
+-- the flag and the number of a size, or zeros
+pub size-stored : (s t : List ℕ) (at n : ℕ) (z : Maybe ℕ) → z ≡ Some n → t ≡ sets (set s at 1) (at + 1) (big 8 n) → t ≡ sets s at (size_bytes (size_of z))
+size-stored s t at n z h e = rw h (rw add-one at e)
 
-pub size-stored : (s t u : List ℕ) (at n : ℕ) (z : Maybe ℕ) → z ≡ Some n → t ≡ set s at 1 → u ≡ sets t (at + 1) (big 8 n) → u ≡ sets s at (size_bytes (size_of z))
-size-stored s t u at n z h e f = rw h (headed s t u at 1 (big 8 n) e f)
-
-pub no_size_stored : (s t u : List ℕ) (at : ℕ) (z : Maybe ℕ) → z ≡ None → t ≡ set s at 0 → u ≡ sets t (at + 1) (big 8 0) → u ≡ sets s at (size_bytes (size_of z))
-no_size_stored s t u at z h e f = rw h (headed s t u at 0 (big 8 0) e f)
+pub no_size_stored : (s t : List ℕ) (at : ℕ) (z : Maybe ℕ) → z ≡ None → t ≡ sets s at (replicate 9 0) → t ≡ sets s at (size_bytes (size_of z))
+unfolding big
+no_size_stored s t at z h e = rw h e
 
 pub size_fits : (z : Maybe ℕ) (n : ℕ) → z ≡ Some n → n < 18446744073709551616 → OptionFits (NumberFits 8) (size_of z)
 unfolding OptionFits
@@ -57,17 +54,17 @@ symbol-stored s t u v c at code sym k e f g =
     rw (e, k) at (joined (size_bytes sym.size) (span_bytes sym.decl_span) t u v at 9 (length-size sym.size) f g)
 
 -- three bytes, and more behind them
-threes : (s t u v w : List ℕ) (at a b c : ℕ) (xs : List ℕ) → t ≡ set s at a → u ≡ set t (at + 1) b → v ≡ set u (at + 2) c → w ≡ sets v (at + 3) xs → w ≡ sets s at (a ∷ b ∷ c ∷ xs)
-threes s t u v w at a b c xs d e f g = simp (d, e, f, towards_suc) at g
+threes : (s t : List ℕ) (at a b c : ℕ) (xs : List ℕ) → t ≡ sets (set (set (set s at a) (at + 1) b) (at + 2) c) (at + 3) xs → t ≡ sets s at (a ∷ b ∷ c ∷ xs)
+threes s t at a b c xs e = simp towards_suc at e
 
-pub gate-stored : (s t u v w : List ℕ) (at : ℕ) (g : GateSig) → t ≡ set s at 1 → u ≡ set t (at + 1) g.param-count → v ≡ set u (at + 2) g.qubit-count → w ≡ sets v (at + 3) (span_bytes g.decl_span) → w ≡ sets s at (gate_bytes g)
+pub gate-stored : (s t : List ℕ) (at : ℕ) (g : GateSig) → t ≡ sets (set (set (set s at 1) (at + 1) g.param-count) (at + 2) g.qubit-count) (at + 3) (span_bytes g.decl_span) → t ≡ sets s at (gate_bytes g)
 unfolding gate_bytes
-gate-stored s t u v w at g = threes s t u v w at 1 g.param-count g.qubit-count (span_bytes g.decl_span)
+gate-stored s t at g = threes s t at 1 g.param-count g.qubit-count (span_bytes g.decl_span)
 
-pub function_stored : (s t u v w : List ℕ) (at n count : ℕ) (ty : ClassicalType) (sp : Span) → n ≡ number_of ty → t ≡ set s at 1 → u ≡ set t (at + 1) n → v ≡ set u (at + 2) count → w ≡ sets v (at + 3) (span_bytes sp) → w ≡ sets s at (function_bytes ty sp count [])
+pub function_stored : (s t : List ℕ) (at n count : ℕ) (ty : ClassicalType) (sp : Span) → n ≡ number_of ty → t ≡ sets (set (set (set s at 1) (at + 1) n) (at + 2) count) (at + 3) (span_bytes sp) → t ≡ sets s at (function_bytes ty sp count [])
 unfolding function_bytes
-function_stored s t u v w at n count ty sp h d e f g =
-    rw (h, ← append-nil (span_bytes sp)) at (threes s t u v w at 1 n count (span_bytes sp) d e f g)
+function_stored s t at n count ty sp h e =
+    rw (h, ← append-nil (span_bytes sp)) at (threes s t at 1 n count (span_bytes sp) e)
 
 -- the head of a function's entry, and its types
 pub function_typed : (s t u : List ℕ) (at count : ℕ) (ty : ClassicalType) (sp : Span) (types : List ℕ) → t ≡ sets s at (function_bytes ty sp count []) → u ≡ sets t (at + 11) types → u ≡ sets s at (function_bytes ty sp count types)
@@ -76,16 +73,7 @@ function_typed s t u at count ty sp types e f = joined (function_bytes ty sp cou
 
 -- of the types of a function i are stored
 pub record Copying (s : List ℕ) (to : ℕ) (tree : List ℕ) (at count : ℕ) (t : List ℕ) (i : ℕ) : Type 0 where
-  pub within : i ≤ count
-  pub size : length t ≡ length s
   pub same : sets t (to + i) (type_bytes tree (at + 3 * i) (count - i)) ≡ sets s to (type_bytes tree at count)
-
-pub copying_start : (s : List ℕ) (to : ℕ) (tree : List ℕ) (at count : ℕ) → Copying s to tree at count s 0
-copying_start s to tree at count =
-    let e : to + 0 ≡ to = omega arith in
-    let f : at + 3 * 0 ≡ at = omega arith in
-    let g : count - 0 ≡ count = omega arith in
-    record { within = omega arith; size = refl; same = rw (e, f, g) }
 
 module _ {s : List ℕ} {to : ℕ} {tree : List ℕ} {at count : ℕ} {t : List ℕ} {i : ℕ} (r : Copying s to tree at count t i) where
   pub copying_more : i < count → Copying s to tree at count (set t (to + i) (get_or tree (at + 3 * i) 0)) (i + 1)
@@ -94,34 +82,13 @@ module _ {s : List ℕ} {to : ℕ} {tree : List ℕ} {at count : ℕ} {t : List 
       let e : count - i ≡ suc (count - (i + 1)) = omega arith in
       let f : suc (to + i) ≡ to + (i + 1) = omega arith in
       let g : at + 3 * i + 3 ≡ at + 3 * (i + 1) = omega arith in
-      record {
-        within = omega arith;
-        size = length-set t (to + i) (get_or tree (at + 3 * i) 0) ∙ r.size;
-        same = rw (← f, ← g) (rw e at r.same);
-      }
+      record { same = rw (← f, ← g) (rw e at r.same) }
 
   pub copying_end : count ≤ i → t ≡ sets s to (type_bytes tree at count)
   unfolding type_bytes
   copying_end h = let e : count - i ≡ 0 = omega arith in rw e at r.same
 
--- the first i bytes are cleared
-pub record Clearing (s t : List ℕ) (i : ℕ) : Type 0 where
-  pub within : i ≤ 65536
-  pub size : length t ≡ length s
-  pub same : t ≡ replicate i 0 ++ drop i s
-
-pub clearing_start : (s : List ℕ) → Clearing s s 0
-clearing_start s = record { within = omega arith; size = refl; same = fill_none s 0 }
-
-module _ {s t : List ℕ} {i : ℕ} (r : Clearing s t i) where
-  pub clearing_more : i < 65536 → 65536 ≤ length s → Clearing s (set t i 0) (i + 1)
-  clearing_more h room =
-      record {
-        within = omega arith;
-        size = length-set t i 0 ∙ r.size;
-        same = ap (λ (l : List ℕ). set l i 0) r.same ∙ fill_more i 0 s (omega arith);
-      }
-
-  pub clearing_end : 65536 ≤ i → t ≡ cleared s
-  unfolding cleared
-  clearing_end h = let e : i ≡ 65536 = omega (arith, r.within) in subst (λ (n : ℕ). t ≡ replicate n 0 ++ drop n s) e r.same
+-- the scratch cleared
+pub cleared_by : (s z : List ℕ) → z ≡ replicate (length (take 65536 s)) 0 → 65536 ≤ length s → z ++ drop 65536 s ≡ cleared s
+unfolding cleared
+cleared_by s z e h = rw (length-take-le 65536 s h) at (ap (λ (l : List ℕ). l ++ drop 65536 s) e)

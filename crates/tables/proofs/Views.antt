@@ -22,12 +22,6 @@ use Rattle.tables.specs.Tables.{brief_of, params_of}
 some-suc : (n : ℕ) → (n ≡ 0 → ⊥) → n ≡ suc (n - 1)
 some-suc n h = omega arith
 
-pub size_none : (s : List ℕ) (at n : ℕ) → get_or s at 0 ≡ 0 → number_of None ≡ size_by (get_or s at 0) n
-size_none s at n e = rw e
-
-pub size-some : (s : List ℕ) (at m n : ℕ) → (get_or s at 0 ≡ 0 → ⊥) → m ≡ n → number_of (Some m) ≡ size_by (get_or s at 0) n
-size-some s at m n h e = rw (some-suc (get_or s at 0) h, e)
-
 pub symbol-none : (s : List ℕ) (level x : ℕ) → get_or s (code_place level x) 0 ≡ 0 → found_of None ≡ symbol_at s level x
 symbol-none s level x e = rw e
 
@@ -70,11 +64,7 @@ current_at s depth x r d h e =
 
 -- the scopes from so many on are still to be asked
 pub record Seeking (s : List ℕ) (depth x left : ℕ) : Type 0 where
-  pub within : left ≤ depth
   pub same : get (scopes_of s depth) x ≡ get (scopes_of s left) x
-
-pub seeking-start : (s : List ℕ) (depth x : ℕ) → Seeking s depth x depth
-seeking-start s depth x = record { within = omega arith; same = refl }
 
 module _ {s : List ℕ} {depth x left : ℕ} (r : Seeking s depth x left) where
   pub seeking-found : (f : Maybe SymbolValue) (v : SymbolValue) → 0 < left → x < 256 → found_of f ≡ symbol_at s (left - 1) x → f ≡ Some v → found_of (Some v) ≡ get (scopes_of s depth) x
@@ -91,7 +81,7 @@ module _ {s : List ℕ} {depth x left : ℕ} (r : Seeking s depth x left) where
       let n : left ≡ suc (left - 1) = omega arith in
       let here : scope_of s (left - 1) x ≡ none = scope_at s (left - 1) x h ∙ sym e ∙ ap found_of g in
       let p : get (scopes_of s depth) x ≡ get (scopes_of s (suc (left - 1))) x = rw n at r.same in
-      record { within = omega (arith, r.within); same = p ∙ rw here }
+      record { same = p ∙ rw here }
 
   pub seeking-end : left ≤ 0 → found_of None ≡ get (scopes_of s depth) x
   unfolding scopes_of get

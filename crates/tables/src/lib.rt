@@ -1,11 +1,11 @@
 // The symbols, gates and functions that a walk has met, as tables in the lent scratch. The layout is that of the context's views. The
 // walk lends a scratch of at least 65,536 bytes, names texts by numbers below 256, and has at most 9 scopes.
+// A caller in C lends plain bytes, so the entries are bytes and not structs.
 #![tactic(auto)]
 
 ghost use Rattle.std.specs.Prelude.{◌≡◌, ◌+◌, ◌-◌, ◌*◌, ◌≤◌, ◌<◌, [], length, get_or, set};
 ghost use Rattle.std.proofs.lemmas.List.Edits.{sets};
 ghost use Rattle.types.specs.Types.{number_of};
-ghost use Rattle.tree.specs.Encode.{big};
 ghost use Rattle.tree.specs.Fits.{NumberFits, SpanFits, OptionFits};
 ghost use Rattle.sema.specs.Messages.{Qubit};
 ghost use Rattle.sema.specs.Symbols.{get, get_current};
@@ -17,57 +17,36 @@ ghost use Rattle.tables.specs.Tables.{Inserted, Entered, Begun, GateDefined, Fun
 
 use accepted::numbers::{span_at, u64_at};
 use ast::ClassicalType;
-use context::{
-    FunctionSig, GateSig, Symbol, SymbolKind,
-};
+use context::{FunctionSig, GateSig, Symbol, SymbolKind};
 use span::Span;
-use text::wide;
 
 // Of a level, the codes' bytes and then the entries.
 const CODES: usize = 256;
 
 const SYMBOL: usize = 17;
 
-const LEVEL: usize = 4608;
+const LEVEL: usize = CODES + 256 * SYMBOL;
 
-const GATES: usize = 41472;
+// Behind the levels, the gates, and then the functions.
+const GATES: usize = 9 * LEVEL;
 
 const GATE: usize = 11;
 
-const FUNCTIONS: usize = 44288;
+const FUNCTIONS: usize = GATES + 256 * GATE;
 
 const FUNCTION: usize = 27;
 
-// The bytes of the gates and the functions.
-const SIGNATURES: usize = 9728;
+const END: usize = FUNCTIONS + 256 * FUNCTION;
 
-// Stores a number in so many bytes, the last byte first.
-fn store(s: &mut [u8], at: usize, width: usize, v: u64)
-    requires { at + width ≤ length s.old }
-    ensures { s.new ≡ sets s.old at (big width v) }
-{
-    let mut rest = v;
-    let mut i = width;
-    while 0 < i {
-        i -= 1;
-        s[at + i] = (rest % 256) as u8;
-        rest = rest / 256;
-    }
-}
-
-fn put(s: &mut [u8], at: usize, b: u8)
-    requires { at < length s.old }
-    ensures { s.new ≡ set s.old at b }
-{
-    s[at] = b;
-}
+// The scratch that a walk is lent.
+const SCRATCH: usize = 65536;
 
 fn store_span(s: &mut [u8], at: usize, sp: Span)
     requires { at + 8 ≤ length s.old }
     ensures { (s.new ≡ sets s.old at (span_bytes sp)) × SpanFits sp }
 {
-    store(s, at, 4, sp.start as u64);
-    store(s, at + 4, 4, sp.end as u64);
+    s[at..at + 4].copy_from_slice(&sp.start.to_be_bytes());
+    s[at + 4..at + 8].copy_from_slice(&sp.end.to_be_bytes());
 }
 
 // The type with a number.
@@ -94,25 +73,14 @@ fn kind_of(code: u8) -> SymbolKind
     requires { 0 < code }
     ensures { kind_of result ≡ get_or kinds (code - 1) Qubit }
 {
-    if code == 2 {
-        return SymbolKind::Bit;
+    match code {
+        2 => SymbolKind::Bit,
+        3..=7 => SymbolKind::Classical(type_of(code - 3)),
+        8..=12 => SymbolKind::Const(type_of(code - 8)),
+        13 => SymbolKind::GateParam,
+        14 => SymbolKind::GateQubit,
+        _ => SymbolKind::Qubit,
     }
-    if code == 13 {
-        return SymbolKind::GateParam;
-    }
-    if code == 14 {
-        return SymbolKind::GateQubit;
-    }
-    if code < 3 {
-        return SymbolKind::Qubit;
-    }
-    if code < 8 {
-        return SymbolKind::Classical(type_of(code - 3));
-    }
-    if code < 13 {
-        return SymbolKind::Const(type_of(code - 8));
-    }
-    SymbolKind::Qubit
 }
 
 fn kind_code(kind: SymbolKind) -> u8
@@ -132,10 +100,7 @@ fn size_at(s: &[u8], at: usize) -> Option<u64>
     requires { at + 9 ≤ length s.now }
     ensures { size_of result ≡ size_by (get_or s.now at 0) (number_at 8 s.now (at + 1)) }
 {
-    if s[at] == 0 {
-        return None;
-    }
-    Some(u64_at(s, at + 1))
+    (s[at] != 0).then(|| u64_at(s, at + 1))
 }
 
 fn store_size(s: &mut [u8], at: usize, size: Option<u64>)
@@ -144,13 +109,10 @@ fn store_size(s: &mut [u8], at: usize, size: Option<u64>)
 {
     match size {
         Some(n) => {
-            put(s, at, 1);
-            store(s, at + 1, 8, n);
+            s[at] = 1;
+            s[at + 1..at + 9].copy_from_slice(&n.to_be_bytes());
         }
-        None => {
-            put(s, at, 0);
-            store(s, at + 1, 8, 0);
-        }
+        None => s[at..at + 9].fill(0),
     }
 }
 
@@ -165,13 +127,10 @@ fn symbol_at(s: &[u8], level: usize, x: usize) -> Option<Symbol>
     }
     let at = base + CODES + x * SYMBOL;
     let entry = &s[at..at + SYMBOL]; // from a part of its own, the compiler reads a number by one load
-    let kind = kind_of(code);
-    let size = size_at(entry, 0);
-    let decl_span = span_at(entry, 9);
     Some(Symbol {
-        kind,
-        size,
-        decl_span,
+        kind: kind_of(code),
+        size: size_at(entry, 0),
+        decl_span: span_at(entry, 9),
     })
 }
 
@@ -179,14 +138,11 @@ fn store_symbol(s: &mut [u8], level: usize, x: usize, sym: Symbol)
     requires { (65536 ≤ length s.old) × (level < 9) × (x < 256) }
     ensures { (s.new ≡ sets (set s.old (code_place level x) (code_of (kind_of sym.kind))) (symbol_place level x) (symbol_bytes (symbol_of sym))) × SymbolFits (symbol_of sym) }
 {
-    let kind = sym.kind;
-    let size = sym.size;
-    let decl_span = sym.decl_span;
     let base = level * LEVEL;
     let at = base + CODES + x * SYMBOL;
-    put(s, base + x, kind_code(kind));
-    store_size(s, at, size);
-    store_span(s, at + 9, decl_span);
+    s[base + x] = kind_code(sym.kind);
+    store_size(s, at, sym.size);
+    store_span(s, at + 9, sym.decl_span);
 }
 
 // The symbol of a name in the innermost scope that has one.
@@ -194,11 +150,8 @@ pub fn get(scratch: &[u8], depth: usize, x: usize) -> Option<Symbol>
     requires { (65536 ≤ length scratch.now) × (depth ≤ 9) × (x < 256) }
     ensures { found_of result ≡ get (scopes_of scratch.now depth) x }
 {
-    let mut left = depth;
-    while 0 < left {
-        left -= 1;
-        let found = symbol_at(scratch, left, x);
-        if let Some(sym) = found {
+    for level in (0..depth).rev() {
+        if let Some(sym) = symbol_at(scratch, level, x) {
             return Some(sym);
         }
     }
@@ -218,14 +171,12 @@ pub fn get_current(scratch: &[u8], depth: usize, x: usize) -> Option<Symbol>
 }
 
 // The size of the symbol that a name shows.
+#[tactic(auto, unfolding(sema::specs::Marks::size_of))]
 pub fn size_of(scratch: &[u8], depth: usize, x: usize) -> Option<u64>
     requires { (65536 ≤ length scratch.now) × (depth ≤ 9) × (x < 256) }
     ensures { size_of result ≡ sizeIn (get (scopes_of scratch.now depth) x) }
 {
-    let Some(symbol) = get(scratch, depth, x) else {
-        return None;
-    };
-    symbol.size
+    get(scratch, depth, x)?.size
 }
 
 // Gives a name a symbol in the innermost scope.
@@ -242,11 +193,7 @@ pub fn enter(scratch: &mut [u8], depth: usize)
     ensures { Entered scratch.old scratch.new depth }
 {
     let at = depth * LEVEL;
-    let mut i = 0;
-    while i < CODES {
-        scratch[at + i] = 0;
-        i += 1;
-    }
+    scratch[at..at + CODES].fill(0);
 }
 
 pub fn gate(scratch: &[u8], x: usize) -> Option<GateSig>
@@ -257,13 +204,10 @@ pub fn gate(scratch: &[u8], x: usize) -> Option<GateSig>
     if scratch[at] == 0 {
         return None;
     }
-    let params = wide(scratch[at + 1]);
-    let qubits = wide(scratch[at + 2]);
-    let decl_span = span_at(scratch, at + 3);
     Some(GateSig {
-        param_count: params,
-        qubit_count: qubits,
-        decl_span,
+        param_count: usize::from(scratch[at + 1]),
+        qubit_count: usize::from(scratch[at + 2]),
+        decl_span: span_at(scratch, at + 3),
     })
 }
 
@@ -271,11 +215,10 @@ fn store_gate(s: &mut [u8], at: usize, sig: GateSig)
     requires { (at + 11 ≤ length s.old) × (sig.param_count < 256) × (sig.qubit_count < 256) }
     ensures { (s.new ≡ sets s.old at (gate_bytes (gate_of sig))) × SpanFits sig.decl_span }
 {
-    let decl_span = sig.decl_span;
-    put(s, at, 1);
-    put(s, at + 1, sig.param_count as u8);
-    put(s, at + 2, sig.qubit_count as u8);
-    store_span(s, at + 3, decl_span);
+    s[at] = 1;
+    s[at + 1] = sig.param_count as u8;
+    s[at + 2] = sig.qubit_count as u8;
+    store_span(s, at + 3, sig.decl_span);
 }
 
 // The counts are those of a Vec.
@@ -294,13 +237,10 @@ pub fn function(scratch: &[u8], x: usize) -> Option<FunctionSig>
     if scratch[at] == 0 {
         return None;
     }
-    let return_type = type_of(scratch[at + 1]);
-    let count = wide(scratch[at + 2]);
-    let decl_span = span_at(scratch, at + 3);
     Some(FunctionSig {
-        param_count: count,
-        return_type,
-        decl_span,
+        param_count: usize::from(scratch[at + 2]),
+        return_type: type_of(scratch[at + 1]),
+        decl_span: span_at(scratch, at + 3),
     })
 }
 
@@ -317,10 +257,8 @@ fn store_types(s: &mut [u8], to: usize, tree: &[u8], at: usize, count: usize)
     requires { (to + count ≤ length s.old) × (at + 3 * count ≤ length tree.now) }
     ensures { s.new ≡ sets s.old to (type_bytes tree.now at count) }
 {
-    let mut i = 0;
-    while i < count {
+    for i in 0..count {
         s[to + i] = tree[at + 3 * i];
-        i += 1;
     }
 }
 
@@ -328,9 +266,9 @@ fn store_function(s: &mut [u8], at: usize, ty: ClassicalType, sp: Span, count: u
     requires { (at + 11 ≤ length s.old) × (count < 256) }
     ensures { (s.new ≡ sets s.old at (function_bytes ty sp count [])) × SpanFits sp }
 {
-    put(s, at, 1);
-    put(s, at + 1, type_number(ty));
-    put(s, at + 2, count as u8);
+    s[at] = 1;
+    s[at + 1] = type_number(ty);
+    s[at + 2] = count as u8;
     store_span(s, at + 3, sp);
 }
 
@@ -359,11 +297,7 @@ pub fn begin(scratch: &mut [u8])
     ensures { Begun scratch.old scratch.new }
 {
     enter(scratch, 0);
-    let mut i = 0;
-    while i < SIGNATURES {
-        scratch[GATES + i] = 0;
-        i += 1;
-    }
+    scratch[GATES..END].fill(0);
 }
 
 // After a call.
@@ -371,9 +305,5 @@ pub fn clear(scratch: &mut [u8])
     requires { 65536 ≤ length scratch.old }
     ensures { scratch.new ≡ cleared scratch.old }
 {
-    let mut i = 0;
-    while i < 65536 {
-        scratch[i] = 0;
-        i += 1;
-    }
+    scratch[..SCRATCH].fill(0);
 }
