@@ -3,6 +3,7 @@ use Prim.Native.Nat.{ℕ, suc, ◌-◌, ◌≤◌, ◌<◌, ◌+◌}
 use mathlib.Core.Path.{◌≡◌, refl, sym, ◌∙◌}
 use mathlib.Core.List.{List, [], ◌∷◌, map}
 use native.Mathlib.Numerals.{add-one}
+use native.Mathlib.Omega.{arith}
 use lib.ListN.{get_or}
 use Rattle.span.specs.declared.Span.{Span}
 use Rattle.ast.specs.Tree.{Text, TextNumber}
@@ -38,31 +39,38 @@ pub record Filling {A : Type 0} (p : Reader A) (f : A → TextNumber × Symbol) 
   pub becomes : Becomes s u depth (scopes_of u depth) (gates_of s) (functions_of s)
   pub same : into (scopes_of u depth) (map f (value_or [] (repeat [] ◌∷◌ p n tree k))) ≡ into (scopes_of s depth) (map f (value_or [] (vec p tree at)))
 
-module _ {A : Type 0} (p : Reader A) (f : A → TextNumber × Symbol) (tree s : List ℕ) (depth at : ℕ) where
-  pub filling_start : (n : ℕ) → IsOk (vec p tree at) → n ≡ get_or tree at 0 → Filling p f tree s depth at s n (at + 1)
+module _ {A : Type 0} {p : Reader A} {f : A → TextNumber × Symbol} {tree s : List ℕ} {depth at : ℕ} where
+  filling_start : (n : ℕ) → IsOk (vec p tree at) → n ≡ get_or tree at 0 → Filling p f tree s depth at s n (at + 1)
   filling_start n h e = rw e (record {
     rest = counted-held tree at [] ◌∷◌ p h;
     becomes = record { scopes_are = refl; gates_are = refl; functions_are = refl; same_length = refl; same_rest = refl };
     same = rw (counted_is tree at [] ◌∷◌ p h);
   })
 
-  module _ (u : List ℕ) (n k : ℕ) (r : Filling p f tree s depth at u n k) where
-    pub filling_first : 0 < n → IsOk (p tree k)
-    filling_first l = repeat-first tree k [] ◌∷◌ p n r.rest l
+  -- none of n entries are made yet
+  pub filling_none : (n : ℕ) → IsOk (vec p tree at) → n ≡ get_or tree at 0 → Filling p f tree s depth at s (n - 0) (at + 1)
+  filling_none n h e = filling_start (n - 0) h (omega (arith, e))
 
-    pub filling_more : 0 < n → (a : A) (m : ℕ) → p tree k ≡ ok a m → (v : List ℕ) → Inserted u v depth (f a).0 (f a).1 → Filling p f tree s depth at v (n - 1) m
-    unfolding into
-    filling_more l a m e v i =
-        let all = value_is (repeat_is tree k [] ◌∷◌ p n r.rest l m (sym (next_is e)) a) [] in
-        record {
-          rest = repeat-rest tree k [] ◌∷◌ p n r.rest l m (sym (next_is e));
-          becomes = then r.becomes (record { scopes_are = refl; gates_are = i.gates_are; functions_are = i.functions_are; same_length = i.same_length; same_rest = i.same_rest });
-          same = rw i.scopes_are (rw (all, value_is e a) at r.same);
-        }
+  -- i of n entries are made
+  module _ {u : List ℕ} {n i k : ℕ} (r : Filling p f tree s depth at u (n - i) k) where
+    pub filling_first : i < n → IsOk (p tree k)
+    filling_first l = repeat-first tree k [] ◌∷◌ p (n - i) r.rest (omega arith)
 
-    pub filling_end : n ≤ 0 → Becomes s u depth (into (scopes_of s depth) (map f (value_or [] (vec p tree at)))) (gates_of s) (functions_of s)
+    pub filling_step : i < n → {a : A} {m : ℕ} → p tree k ≡ ok a m → {v : List ℕ} → Inserted u v depth (f a).0 (f a).1 → Filling p f tree s depth at v (n - (i + 1)) m
     unfolding into
-    filling_end l = rw (← r.same, value_is (repeat-none tree k [] ◌∷◌ p n l) []) r.becomes
+    filling_step l {a = a} {m = m} e b =
+        let some : 0 < n - i = omega arith in
+        let fewer : n - (i + 1) ≡ n - i - 1 = omega arith in
+        let all = value_is (repeat_is tree k [] ◌∷◌ p (n - i) r.rest some m (sym (next_is e)) a) [] in
+        rw fewer (record {
+          rest = repeat-rest tree k [] ◌∷◌ p (n - i) r.rest some m (sym (next_is e));
+          becomes = then r.becomes (record { scopes_are = refl; gates_are = b.gates_are; functions_are = b.functions_are; same_length = b.same_length; same_rest = b.same_rest });
+          same = rw b.scopes_are (rw (all, value_is e a) at r.same);
+        })
+
+    pub filling_done : n ≤ i → Becomes s u depth (into (scopes_of s depth) (map f (value_or [] (vec p tree at)))) (gates_of s) (functions_of s)
+    unfolding into
+    filling_done l = rw (← r.same, value_is (repeat-none tree k [] ◌∷◌ p (n - i) (omega arith)) []) r.becomes
 
 -- into a scope that was entered
 into-head : (c : Scope) (ss : Symbols) (es : List (TextNumber × Symbol)) → into (c ∷ ss) es ≡ insert_all c es ∷ ss
