@@ -4,7 +4,7 @@ use mathlib.Core.Path.{◌≡◌, refl, sym, ◌∙◌}
 use mathlib.Core.List.{List, [], ◌∷◌, map}
 use native.Mathlib.Numerals.{add-one}
 use native.Mathlib.Omega.{arith}
-use lib.ListN.{get_or}
+use lib.ListN.{length, get_or}
 use Rattle.span.specs.declared.Span.{Span}
 use Rattle.ast.specs.Tree.{Text, TextNumber}
 use Rattle.ast.specs.declared.ClassicalType.{ClassicalType}
@@ -18,8 +18,9 @@ use Rattle.sema.specs.Symbols.{Symbol, Symbols, Scope, empty, plain, insert, ins
 use Rattle.context.specs.View.{number_at, type_of, scopes_of, gates_of, functions_of}
 use Rattle.tables.specs.Tables.{Becomes, Inserted, Entered}
 use Rattle.accepted.specs.Parts.{value_or, next_is, value_is}
-use Rattle.accepted.specs.Fields.{text_is, counted_is, counted-held, repeat-none, repeat-first, repeat-rest, repeat_is}
-use Rattle.accepted.specs.Operands.{param_is}
+use Rattle.accepted.specs.Fields.{text_in, text-below, text_is, counted_in, counted_is, counted-held, repeat-none, repeat-first, repeat-rest, repeat_is}
+use Rattle.accepted.specs.Operands.{param-named, param_is}
+use Rattle.accepted.specs.Spanned.{Named}
 use Rattle.scopes.specs.Scopes.{named, typed, into}
 
 -- one change after another
@@ -111,3 +112,29 @@ name-read t tree k h x e = rw e (text_is tree k t is_name h)
 
 pub param-read : (t : List Text) (tree : List ℕ) (k : ℕ) → IsOk (param t tree k) → (ty : ClassicalType) → ty ≡ type_of (get_or tree k 0) → (x : ℕ) → x ≡ number_at 2 tree (k + 1) → param t tree k ≡ ok (ty, x) (k + 3)
 param-read t tree k h ty e x f = rw (e, f) (param_is t tree k h)
+
+-- the next value of a Vec, where it stands
+module _ (t : List Text) (tree : List ℕ) (k n i : ℕ) where
+  module _ (h : IsOk (repeat [] ◌∷◌ (name t) (n - i) tree k)) (l : i < n) where
+    next_name : IsOk (name t tree k)
+    next_name = repeat-first tree k [] ◌∷◌ (name t) (n - i) h (omega arith)
+
+    pub next-name_in : k + 2 ≤ length tree
+    next-name_in = text_in tree k t is_name next_name
+
+    pub next-name-below : number_at 2 tree k < length t
+    next-name-below = text-below tree k t is_name next_name
+
+  module _ (h : IsOk (repeat [] ◌∷◌ (param t) (n - i) tree k)) (l : i < n) where
+    next_param : Named t tree k
+    next_param = param-named t tree k (repeat-first tree k [] ◌∷◌ (param t) (n - i) h (omega arith))
+
+    pub next-param_in : k + 3 ≤ length tree
+    next-param_in = next_param.inside
+
+    pub next-param-below : number_at 2 tree (k + 1) < length t
+    next-param-below = next_param.below
+
+pub ruleset names = (counted_in, next-name_in, next-name-below)
+
+pub ruleset params = (counted_in, next-param_in, next-param-below)

@@ -135,7 +135,7 @@ pub fn declaration_at(tree: &[u8], at: usize, left: usize) -> Declaration
 }
 
 // A Vec of names into the innermost scope.
-#[tactic(auto, using(accepted::specs::Fields::counted_in))]
+#[tactic(auto, using(crate::proofs::Filling::names))]
 fn insert_names(
     tree: &[u8],
     scratch: &mut [u8],
@@ -185,7 +185,7 @@ pub fn enter_gate(
 }
 
 // A Vec of parameters into the innermost scope.
-#[tactic(auto, using(accepted::specs::Fields::counted_in))]
+#[tactic(auto, using(crate::proofs::Filling::params))]
 fn insert_params(tree: &[u8], scratch: &mut [u8], depth: usize, at: usize, span: Span)
     requires { (65536 ≤ length scratch.old) × (0 < depth) × (depth ≤ 9) × (length (texts_of tree.now) ≤ 256) × IsOk (vec (param (texts_of tree.now)) tree.now at) }
     ensures { Becomes scratch.old scratch.new depth (into (scopes_of scratch.old depth) (map (typed span) (value_or [] (vec (param (texts_of tree.now)) tree.now at)))) (gates_of scratch.old) (functions_of scratch.old) }
