@@ -1,51 +1,49 @@
 -- What declarations declare, one law for each way out. Assumes nothing.
-use Prim.Native.Nat.{ℕ, zero, suc, ◌+◌, ◌≤◌, ◌<◌}
-use mathlib.Core.Path.{◌≡◌, refl, sym, ap, ◌∙◌}
+use Prim.Native.Nat.{ℕ, ◌+◌, ◌≤◌, ◌<◌}
+use mathlib.Core.Path.{◌≡◌, refl, sym, ◌∙◌}
 use mathlib.Core.List.{List}
-use mathlib.Core.Option.{Option, none, some}
+use mathlib.Core.Option.{Option, none}
 use mathlib.Core.Logic.{inl, inr, ⊎_elim}
 use native.Mathlib.Omega.{arith}
 use lib.ListN.{length, get_or}
-use borrow.Author.Tests.{ne_eqb}
 use Rattle.span.specs.declared.Span.{Span}
 use Rattle.ast.specs.Tree.{Text, Stmt}
 use Rattle.ast.specs.declared.ClassicalType.{ClassicalType}
+use Rattle.ast.specs.declared.ClassicalQualifier.{ClassicalQualifier}
 use Rattle.tree.specs.Ans.{Ans, ok, IsOk, next_of}
 use Rattle.tree.specs.Read.{u64, option}
 use Rattle.tree.specs.Stmts.{qualifier, held, stmt}
-use Rattle.sema.specs.Messages.{Qubit, Bit, Classical, Const}
+use Rattle.sema.specs.Messages.{Qubit, Bit}
 use Rattle.sema.specs.Symbols.{Symbols, get_current, declare, decl_kind, after}
 use Rattle.context.specs.declared.Symbol.{Symbol as SymbolValue}
-use Rattle.std.specs.Prelude.{Option as Maybe, Some, None}
-use Rattle.context.specs.declared.Symbol.{Symbol}
+use Rattle.std.specs.Prelude.{Option as Maybe, Some, None, true, false}
+use Rattle.std.specs.Option.{is_some}
 use Rattle.context.specs.declared.SymbolKind.{SymbolKind as Kind}
 use Rattle.context.specs.Values.{kind_of, number_of, symbol_of, found_of}
 use Rattle.context.specs.View.{number_at, span_at, type_of, stmt_span, scopes_of, gates_of, functions_of}
 use Rattle.tables.specs.Tables.{Becomes, Inserted}
-use Rattle.accepted.specs.Cases.{qualifier_of}
+use Rattle.accepted.specs.Bodies.{stmt_in}
 use Rattle.accepted.specs.Parts.{value_or, next_is, value_is, given_is}
-use Rattle.accepted.specs.Fields.{option-none, option-held, one_below}
-use Rattle.accepted.specs.Operands.{some_qualifier_is}
+use Rattle.accepted.specs.Fields.{option_in, option-none, option-held, one_below}
+use Rattle.accepted.specs.Operands.{some_qualifier_in, some_qualifier_is}
 use Rattle.accepted.specs.Stmts as of
+use Rattle.accepted.specs.Stmts.{classical_decl-qualifier, classical_decl_init, classical_decl-inside}
 use Rattle.scopes.specs.declared.Declaration.{Declaration}
-use Rattle.scopes.specs.Scopes.{register_kind, Declares}
+use Rattle.scopes.specs.Scopes.{register_kind, qualified_of, Declares}
 
 -- a symbol declared: the name is new in the innermost scope, or not
-module _ (s : List ℕ) (depth x : ℕ) (found : Maybe SymbolValue) (f : found_of found ≡ get_current (scopes_of s depth) x) where
-  pub none_found : found ≡ None → found_of None ≡ get_current (scopes_of s depth) x
-  none_found e = sym (ap found_of e) ∙ f
-
-  pub some-found : (prev : Symbol) → found ≡ Some prev → found_of (Some prev) ≡ get_current (scopes_of s depth) x
-  some-found prev e = sym (ap found_of e) ∙ f
-
-  pub declared-new : (u : List ℕ) (symbol : Symbol) → found ≡ None → Inserted s u depth x (symbol_of symbol) → Becomes s u depth (declare (scopes_of s depth) x (kind_of symbol.kind) (number_of symbol.size) symbol.decl_span) (gates_of s) (functions_of s)
+module _ {s : List ℕ} {depth : ℕ} (x : ℕ) (symbol : SymbolValue) where
+  pub declared-new : (found : Maybe SymbolValue) → found_of found ≡ get_current (scopes_of s depth) x → is_some found ≡ false → {u : List ℕ} → Inserted s u depth x (symbol_of symbol)
+      → Becomes s u depth (declare (scopes_of s depth) x (kind_of symbol.kind) (number_of symbol.size) symbol.decl_span) (gates_of s) (functions_of s)
   unfolding declare
-  declared-new u symbol e i = rw (← none_found e, declare) i
+  declared-new None f e i = rw (← f, declare) i
+  declared-new (Some prev) f e i = absurd cc
 
-  pub declared-again : (symbol prev : Symbol) → found ≡ Some prev → Becomes s s depth (declare (scopes_of s depth) x (kind_of symbol.kind) (number_of symbol.size) symbol.decl_span) (gates_of s) (functions_of s)
+  pub declared-again : (found : Maybe SymbolValue) → found_of found ≡ get_current (scopes_of s depth) x → is_some found ≡ true
+      → Becomes s s depth (declare (scopes_of s depth) x (kind_of symbol.kind) (number_of symbol.size) symbol.decl_span) (gates_of s) (functions_of s)
   unfolding declare
-  declared-again symbol prev e =
-      rw (← some-found prev e, declare) (record { scopes_are = refl; gates_are = refl; functions_are = refl; same_length = refl; same_rest = refl })
+  declared-again None f e = absurd cc
+  declared-again (Some prev) f e = rw (← f, declare) (record { scopes_are = refl; gates_are = refl; functions_are = refl; same_length = refl; same_rest = refl })
 
 -- a statement that declares
 declares : {t : List Text} {x : Ans Stmt} {st : Stmt} {next : ℕ} → x ≡ ok st next → (r : Declaration) → r.end ≡ next → r.name < length t
@@ -100,29 +98,31 @@ module _ (t : List Text) (left : ℕ) (s : List ℕ) (at : ℕ) (h : IsOk (stmt 
   classical_declares b k e ty p kind c name q m g sp f =
       declares (of.classical_decl_is t left s at h b k e m g) _ refl (rw q (of.classical_decl-named t left s at h b k e).below) (λ ss. rw (c, p, q, f)) (sym f)
 
--- the kind of a register that is not one of qubits
-pub kind_bit : (c : ℕ) → (c ≡ 1 → ⊥) → Bit ≡ register_kind c
-kind_bit c n = rw (ne_eqb c 1 n)
-
--- the kind by the qualifier
+-- a qualifier by its bytes
 module _ (s : List ℕ) (at : ℕ) (h : IsOk (option qualifier s at)) where
-  pub kind-plain : (ty : ClassicalType) → get_or s at 0 ≡ 0 → Classical ty ≡ decl_kind (value_or none (option qualifier s at)) ty
-  unfolding decl_kind
-  kind-plain ty z = rw (value_is (option-none s at qualifier h z) none)
+  pub qualifier-none : get_or s at 0 ≡ 0 → qualified_of None ≡ value_or none (option qualifier s at)
+  qualifier-none e = rw (value_is (option-none s at qualifier h e) none)
 
   module _ (z : get_or s at 0 ≡ 0 → ⊥) where
-    pub kind-const : (ty : ClassicalType) → get_or s (at + 1) 0 ≡ 0 → Const ty ≡ decl_kind (value_or none (option qualifier s at)) ty
-    unfolding decl_kind
-    kind-const ty e = rw (value_is (some_qualifier_is s at h z) none, e)
+    pub qualifier-const : get_or s (at + 1) 0 ≡ 0 → qualified_of (Some ClassicalQualifier.Const) ≡ value_or none (option qualifier s at)
+    qualifier-const e = rw (value_is (some_qualifier_is s at h z) none, e)
 
-    pub kind-other : (ty : ClassicalType) → (get_or s (at + 1) 0 ≡ 0 → ⊥) → Classical ty ≡ decl_kind (value_or none (option qualifier s at)) ty
-    unfolding decl_kind qualifier
-    kind-other ty n = rw (value_is (some_qualifier_is s at h z) none) (go (get_or s (at + 1) 0) n (one_below s (at + 1) _ _ (option-held s at qualifier h z)))
-      where
-        go : (b : ℕ) → (b ≡ 0 → ⊥) → b < 3 → Classical ty ≡ decl_kind (some (qualifier_of b)) ty
-        go zero n l = absurd (n refl)
-        go (suc zero) n l = refl
-        go (suc (suc zero)) n l = refl
-        go (suc (suc (suc b))) n l = absurd (omega arith)
+    pub qualifier_input : get_or s (at + 1) 0 ≡ 1 → qualified_of (Some ClassicalQualifier.Input) ≡ value_or none (option qualifier s at)
+    qualifier_input e = rw (value_is (some_qualifier_is s at h z) none, e)
 
-pub ruleset kinds = (kind-plain, kind-const, kind-other)
+    pub qualifier_output : (get_or s (at + 1) 0 ≡ 0 → ⊥) → (get_or s (at + 1) 0 ≡ 1 → ⊥) → qualified_of (Some ClassicalQualifier.Output) ≡ value_or none (option qualifier s at)
+    unfolding qualifier
+    qualifier_output a b =
+        let l = one_below s (at + 1) _ _ (option-held s at qualifier h z) in
+        let e : get_or s (at + 1) 0 ≡ 2 = omega (arith, l, a, b) in
+        rw (value_is (some_qualifier_is s at h z) none, e)
+
+pub ruleset qualifiers = (option_in, some_qualifier_in, qualifier-none, qualifier-const, qualifier_input, qualifier_output)
+
+-- what is known of the parts of the declarations where they are read
+pub classical-named_in : (t : List Text) (left : ℕ) (s : List ℕ) (at : ℕ) → IsOk (stmt t left s at) → get_or s at 0 ≡ 3 → (k : ℕ) → k ≡ next_of (option qualifier s (at + 1)) → k + 3 ≤ length s
+classical-named_in t left s at h b k e = (of.classical_decl-named t left s at h b k e).inside
+
+pub ruleset classical = (stmt_in, classical_decl-qualifier, classical-named_in, classical_decl_init, classical_decl-inside)
+
+pub ruleset registers = (stmt_in, register-name_in, register-size, register-inside)

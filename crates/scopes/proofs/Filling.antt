@@ -3,7 +3,8 @@ use Prim.Native.Nat.{ℕ, suc, ◌-◌, ◌≤◌, ◌<◌, ◌+◌}
 use mathlib.Core.Path.{◌≡◌, refl, sym, ◌∙◌}
 use mathlib.Core.List.{List, [], ◌∷◌, map}
 use native.Mathlib.Numerals.{add-one}
-use lib.ListN.{get_or}
+use native.Mathlib.Omega.{arith}
+use lib.ListN.{length, get_or}
 use Rattle.span.specs.declared.Span.{Span}
 use Rattle.ast.specs.Tree.{Text, TextNumber}
 use Rattle.ast.specs.declared.ClassicalType.{ClassicalType}
@@ -17,8 +18,9 @@ use Rattle.sema.specs.Symbols.{Symbol, Symbols, Scope, empty, plain, insert, ins
 use Rattle.context.specs.View.{number_at, type_of, scopes_of, gates_of, functions_of}
 use Rattle.tables.specs.Tables.{Becomes, Inserted, Entered}
 use Rattle.accepted.specs.Parts.{value_or, next_is, value_is}
-use Rattle.accepted.specs.Fields.{text_is, counted_is, counted-held, repeat-none, repeat-first, repeat-rest, repeat_is}
-use Rattle.accepted.specs.Operands.{param_is}
+use Rattle.accepted.specs.Fields.{text_in, text-below, text_is, counted_in, counted_is, counted-held, repeat-none, repeat-first, repeat-rest, repeat_is}
+use Rattle.accepted.specs.Operands.{param-named, param_is}
+use Rattle.accepted.specs.Spanned.{Named}
 use Rattle.scopes.specs.Scopes.{named, typed, into}
 
 -- one change after another
@@ -38,31 +40,38 @@ pub record Filling {A : Type 0} (p : Reader A) (f : A → TextNumber × Symbol) 
   pub becomes : Becomes s u depth (scopes_of u depth) (gates_of s) (functions_of s)
   pub same : into (scopes_of u depth) (map f (value_or [] (repeat [] ◌∷◌ p n tree k))) ≡ into (scopes_of s depth) (map f (value_or [] (vec p tree at)))
 
-module _ {A : Type 0} (p : Reader A) (f : A → TextNumber × Symbol) (tree s : List ℕ) (depth at : ℕ) where
-  pub filling_start : (n : ℕ) → IsOk (vec p tree at) → n ≡ get_or tree at 0 → Filling p f tree s depth at s n (at + 1)
+module _ {A : Type 0} {p : Reader A} {f : A → TextNumber × Symbol} {tree s : List ℕ} {depth at : ℕ} where
+  filling_start : (n : ℕ) → IsOk (vec p tree at) → n ≡ get_or tree at 0 → Filling p f tree s depth at s n (at + 1)
   filling_start n h e = rw e (record {
     rest = counted-held tree at [] ◌∷◌ p h;
     becomes = record { scopes_are = refl; gates_are = refl; functions_are = refl; same_length = refl; same_rest = refl };
     same = rw (counted_is tree at [] ◌∷◌ p h);
   })
 
-  module _ (u : List ℕ) (n k : ℕ) (r : Filling p f tree s depth at u n k) where
-    pub filling_first : 0 < n → IsOk (p tree k)
-    filling_first l = repeat-first tree k [] ◌∷◌ p n r.rest l
+  -- none of n entries are made yet
+  pub filling_none : (n : ℕ) → IsOk (vec p tree at) → n ≡ get_or tree at 0 → Filling p f tree s depth at s (n - 0) (at + 1)
+  filling_none n h e = filling_start (n - 0) h (omega (arith, e))
 
-    pub filling_more : 0 < n → (a : A) (m : ℕ) → p tree k ≡ ok a m → (v : List ℕ) → Inserted u v depth (f a).0 (f a).1 → Filling p f tree s depth at v (n - 1) m
-    unfolding into
-    filling_more l a m e v i =
-        let all = value_is (repeat_is tree k [] ◌∷◌ p n r.rest l m (sym (next_is e)) a) [] in
-        record {
-          rest = repeat-rest tree k [] ◌∷◌ p n r.rest l m (sym (next_is e));
-          becomes = then r.becomes (record { scopes_are = refl; gates_are = i.gates_are; functions_are = i.functions_are; same_length = i.same_length; same_rest = i.same_rest });
-          same = rw i.scopes_are (rw (all, value_is e a) at r.same);
-        }
+  -- i of n entries are made
+  module _ {u : List ℕ} {n i k : ℕ} (r : Filling p f tree s depth at u (n - i) k) where
+    pub filling_first : i < n → IsOk (p tree k)
+    filling_first l = repeat-first tree k [] ◌∷◌ p (n - i) r.rest (omega arith)
 
-    pub filling_end : n ≤ 0 → Becomes s u depth (into (scopes_of s depth) (map f (value_or [] (vec p tree at)))) (gates_of s) (functions_of s)
+    pub filling_step : i < n → {a : A} {m : ℕ} → p tree k ≡ ok a m → {v : List ℕ} → Inserted u v depth (f a).0 (f a).1 → Filling p f tree s depth at v (n - (i + 1)) m
     unfolding into
-    filling_end l = rw (← r.same, value_is (repeat-none tree k [] ◌∷◌ p n l) []) r.becomes
+    filling_step l {a = a} {m = m} e b =
+        let some : 0 < n - i = omega arith in
+        let fewer : n - (i + 1) ≡ n - i - 1 = omega arith in
+        let all = value_is (repeat_is tree k [] ◌∷◌ p (n - i) r.rest some m (sym (next_is e)) a) [] in
+        rw fewer (record {
+          rest = repeat-rest tree k [] ◌∷◌ p (n - i) r.rest some m (sym (next_is e));
+          becomes = then r.becomes (record { scopes_are = refl; gates_are = b.gates_are; functions_are = b.functions_are; same_length = b.same_length; same_rest = b.same_rest });
+          same = rw b.scopes_are (rw (all, value_is e a) at r.same);
+        })
+
+    pub filling_done : n ≤ i → Becomes s u depth (into (scopes_of s depth) (map f (value_or [] (vec p tree at)))) (gates_of s) (functions_of s)
+    unfolding into
+    filling_done l = rw (← r.same, value_is (repeat-none tree k [] ◌∷◌ p (n - i) (omega arith)) []) r.becomes
 
 -- into a scope that was entered
 into-head : (c : Scope) (ss : Symbols) (es : List (TextNumber × Symbol)) → into (c ∷ ss) es ≡ insert_all c es ∷ ss
@@ -103,3 +112,29 @@ name-read t tree k h x e = rw e (text_is tree k t is_name h)
 
 pub param-read : (t : List Text) (tree : List ℕ) (k : ℕ) → IsOk (param t tree k) → (ty : ClassicalType) → ty ≡ type_of (get_or tree k 0) → (x : ℕ) → x ≡ number_at 2 tree (k + 1) → param t tree k ≡ ok (ty, x) (k + 3)
 param-read t tree k h ty e x f = rw (e, f) (param_is t tree k h)
+
+-- the next value of a Vec, where it stands
+module _ (t : List Text) (tree : List ℕ) (k n i : ℕ) where
+  module _ (h : IsOk (repeat [] ◌∷◌ (name t) (n - i) tree k)) (l : i < n) where
+    next_name : IsOk (name t tree k)
+    next_name = repeat-first tree k [] ◌∷◌ (name t) (n - i) h (omega arith)
+
+    pub next-name_in : k + 2 ≤ length tree
+    next-name_in = text_in tree k t is_name next_name
+
+    pub next-name-below : number_at 2 tree k < length t
+    next-name-below = text-below tree k t is_name next_name
+
+  module _ (h : IsOk (repeat [] ◌∷◌ (param t) (n - i) tree k)) (l : i < n) where
+    next_param : Named t tree k
+    next_param = param-named t tree k (repeat-first tree k [] ◌∷◌ (param t) (n - i) h (omega arith))
+
+    pub next-param_in : k + 3 ≤ length tree
+    next-param_in = next_param.inside
+
+    pub next-param-below : number_at 2 tree (k + 1) < length t
+    next-param-below = next_param.below
+
+pub ruleset names = (counted_in, next-name_in, next-name-below)
+
+pub ruleset params = (counted_in, next-param_in, next-param-below)

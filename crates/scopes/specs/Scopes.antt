@@ -1,8 +1,11 @@
 -- What a declaration that was read says, and names given symbols one after the other.
 use Rattle.std.specs.Prelude.{ℕ, ◌<◌, ◌≡◌, List, [], ◌∷◌, cond, length, eqb}
+use Rattle.std.specs.Prelude.{Option as Maybe, Some, None}
+use Rattle.std.proofs.Math.Option.{Option, none, some}
 use Rattle.span.specs.declared.Span.{Span}
 use Rattle.ast.specs.Tree.{Text, TextNumber, Stmt}
 use Rattle.ast.specs.declared.ClassicalType.{ClassicalType}
+use Rattle.ast.specs.declared.ClassicalQualifier.{ClassicalQualifier}
 use Rattle.tree.specs.Ans.{Ans, next_of, given}
 use Rattle.sema.specs.Messages.{SymbolKind, Qubit, Bit, Classical}
 use Rattle.sema.specs.Symbols.{Symbol, Symbols, plain, insert_current, declare, after as afterStmt}
@@ -13,6 +16,11 @@ use Rattle.scopes.specs.declared.Declaration.{Declaration}
 -- the kind of a register by its case byte: 1 declares qubits, 2 bits
 abbrev pub register_kind : ℕ → SymbolKind
 register_kind c = cond (eqb c 1) Qubit Bit
+
+-- what a qualifier that was read stands for
+abbrev pub qualified_of : Maybe ClassicalQualifier → Option ClassicalQualifier
+qualified_of None = none
+qualified_of (Some q) = some q
 
 -- The statement that was read declares this: the place past it, a name of the file, the symbols after it, its span.
 pub record Declares (t : List Text) (x : Ans Stmt) (r : Declaration) : Type 0 where

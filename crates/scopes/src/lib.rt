@@ -14,16 +14,15 @@ ghost use Rattle.context.specs.Values.{kind_of, number_of, found_of};
 ghost use Rattle.context.specs.View.{type_of, scopes_of, gates_of, functions_of};
 ghost use Rattle.tables.specs.Tables.{Becomes};
 ghost use Rattle.accepted.specs.Parts.{value_or};
-ghost use Rattle.scopes.specs.Scopes.{register_kind, Declares, named, typed, into};
+ghost use Rattle.scopes.specs.Scopes.{register_kind, qualified_of, Declares, named, typed, into};
 
 use accepted::exprs::skip_option_expr;
 use accepted::numbers::{span_at, u16_at};
 use accepted::operands::number_at;
 use accepted::parts::skip_qualifier;
-use ast::ClassicalType;
+use ast::{ClassicalQualifier, ClassicalType};
 use context::{Symbol, SymbolKind};
 use span::Span;
-use text::wide;
 
 // What a declaration declares, and the place past it.
 #[derive(Clone, Copy)]
@@ -40,11 +39,11 @@ pub fn declare(scratch: &mut [u8], depth: usize, x: usize, symbol: Symbol) -> Op
     ensures becomes { Becomes scratch.old scratch.new depth (declare (scopes_of scratch.old depth) x (kind_of symbol.kind) (number_of symbol.size) symbol.decl_span) (gates_of scratch.old) (functions_of scratch.old) }
     ensures below { (d : ℕ) → d < depth → scopes_of scratch.new d ≡ scopes_of scratch.old d }
 {
-    let Some(prev) = tables::get_current(scratch, depth, x) else {
+    let prev = tables::get_current(scratch, depth, x);
+    if prev.is_none() {
         tables::insert(scratch, depth, x, symbol);
-        return None;
-    };
-    Some(prev)
+    }
+    prev
 }
 
 // A type by its case byte.
@@ -55,57 +54,60 @@ pub fn type_at(tree: &[u8], at: usize) -> ClassicalType
     tables::type_of(tree[at])
 }
 
-// The kind of a register by the case byte of its declaration.
-fn register_kind(case: u8) -> SymbolKind
-    ensures { kind_of result ≡ register_kind case }
+// A qualifier, where there is one.
+#[tactic(auto, using(crate::proofs::Declaring::qualifiers))]
+pub fn qualifier_at(tree: &[u8], at: usize) -> Option<ClassicalQualifier>
+    requires { IsOk (option qualifier tree.now at) }
+    ensures { qualified_of result ≡ value_or none (option qualifier tree.now at) }
 {
-    if case == 1 {
-        return SymbolKind::Qubit;
+    if tree[at] == 0 {
+        return None;
     }
-    SymbolKind::Bit
+    match tree[at + 1] {
+        0 => Some(ClassicalQualifier::Const),
+        1 => Some(ClassicalQualifier::Input),
+        _ => Some(ClassicalQualifier::Output),
+    }
 }
 
-fn register(tree: &[u8], at: usize, left: usize) -> Declaration
-    requires { IsOk (stmt (texts_of tree.now) left tree.now at) × (0 < get_or tree.now at 0) × (get_or tree.now at 0 < 3) }
+// A register of this kind.
+#[tactic(auto, using(crate::proofs::Declaring::registers))]
+fn register(tree: &[u8], at: usize, left: usize, kind: SymbolKind) -> Declaration
+    requires { IsOk (stmt (texts_of tree.now) left tree.now at) × (0 < get_or tree.now at 0) × (get_or tree.now at 0 < 3) × (kind_of kind ≡ register_kind (get_or tree.now at 0)) }
     ensures { Declares (texts_of tree.now) (stmt (texts_of tree.now) left tree.now at) result }
 {
-    let kind = register_kind(tree[at]);
     let name = u16_at(tree, at + 1);
-    let n = number_at(tree, at + 3);
-    let size = n.value;
-    let k = n.next;
-    let decl_span = span_at(tree, k);
+    let size = number_at(tree, at + 3);
+    let decl_span = span_at(tree, size.next);
     Declaration {
         name,
         symbol: Symbol {
             kind,
-            size,
+            size: size.value,
             decl_span,
         },
-        end: k + 8,
+        end: size.next + 8,
     }
 }
 
 // The kind of a classical declaration by its qualifier.
-fn decl_kind(tree: &[u8], at: usize, ty: ClassicalType) -> SymbolKind
-    requires { IsOk (option qualifier tree.now at) }
-    ensures { kind_of result ≡ decl_kind (value_or none (option qualifier tree.now at)) ty }
+#[tactic(auto, unfolding(sema::specs::Symbols::decl_kind))]
+fn decl_kind(q: Option<ClassicalQualifier>, ty: ClassicalType) -> SymbolKind
+    ensures { kind_of result ≡ decl_kind (qualified_of q) ty }
 {
-    if tree[at] == 0 {
-        return SymbolKind::Classical(ty);
+    match q {
+        Some(ClassicalQualifier::Const) => SymbolKind::Const(ty),
+        _ => SymbolKind::Classical(ty),
     }
-    if tree[at + 1] == 0 {
-        return SymbolKind::Const(ty);
-    }
-    SymbolKind::Classical(ty)
 }
 
+#[tactic(auto, using(crate::proofs::Declaring::classical))]
 fn classical_decl(tree: &[u8], at: usize, left: usize) -> Declaration
     requires { IsOk (stmt (texts_of tree.now) left tree.now at) × (get_or tree.now at 0 ≡ 3) }
     ensures { Declares (texts_of tree.now) (stmt (texts_of tree.now) left tree.now at) result }
 {
     let k = skip_qualifier(tree, at + 1);
-    let kind = decl_kind(tree, at + 1, type_at(tree, k));
+    let kind = decl_kind(qualifier_at(tree, at + 1), type_at(tree, k));
     let name = u16_at(tree, k + 1);
     let end = skip_option_expr(tree, k + 3);
     let decl_span = span_at(tree, end);
@@ -125,13 +127,15 @@ pub fn declaration_at(tree: &[u8], at: usize, left: usize) -> Declaration
     requires { IsOk (stmt (texts_of tree.now) left tree.now at) × (0 < get_or tree.now at 0) × (get_or tree.now at 0 < 4) }
     ensures { Declares (texts_of tree.now) (stmt (texts_of tree.now) left tree.now at) result }
 {
-    if tree[at] == 3 {
-        return classical_decl(tree, at, left);
+    match tree[at] {
+        1 => register(tree, at, left, SymbolKind::Qubit),
+        2 => register(tree, at, left, SymbolKind::Bit),
+        _ => classical_decl(tree, at, left),
     }
-    register(tree, at, left)
 }
 
 // A Vec of names into the innermost scope.
+#[tactic(auto, using(crate::proofs::Filling::names))]
 fn insert_names(
     tree: &[u8],
     scratch: &mut [u8],
@@ -143,18 +147,16 @@ fn insert_names(
     requires { (65536 ≤ length scratch.old) × (0 < depth) × (depth ≤ 9) × (length (texts_of tree.now) ≤ 256) × IsOk (vec (name (texts_of tree.now)) tree.now at) }
     ensures { Becomes scratch.old scratch.new depth (into (scopes_of scratch.old depth) (map (named (kind_of kind) span) (value_or [] (vec (name (texts_of tree.now)) tree.now at)))) (gates_of scratch.old) (functions_of scratch.old) }
 {
-    let mut n = wide(tree[at]);
+    let symbol = Symbol {
+        kind,
+        size: None,
+        decl_span: span,
+    };
     let mut k = at + 1;
-    while 0 < n {
+    for _ in 0..tree[at] {
         let x = u16_at(tree, k);
-        let symbol = Symbol {
-            kind,
-            size: None,
-            decl_span: span,
-        };
         tables::insert(scratch, depth, x, symbol);
         k += 2;
-        n -= 1;
     }
 }
 
@@ -183,13 +185,13 @@ pub fn enter_gate(
 }
 
 // A Vec of parameters into the innermost scope.
+#[tactic(auto, using(crate::proofs::Filling::params))]
 fn insert_params(tree: &[u8], scratch: &mut [u8], depth: usize, at: usize, span: Span)
     requires { (65536 ≤ length scratch.old) × (0 < depth) × (depth ≤ 9) × (length (texts_of tree.now) ≤ 256) × IsOk (vec (param (texts_of tree.now)) tree.now at) }
     ensures { Becomes scratch.old scratch.new depth (into (scopes_of scratch.old depth) (map (typed span) (value_or [] (vec (param (texts_of tree.now)) tree.now at)))) (gates_of scratch.old) (functions_of scratch.old) }
 {
-    let mut n = wide(tree[at]);
     let mut k = at + 1;
-    while 0 < n {
+    for _ in 0..tree[at] {
         let ty = type_at(tree, k);
         let x = u16_at(tree, k + 1);
         let symbol = Symbol {
@@ -199,7 +201,6 @@ fn insert_params(tree: &[u8], scratch: &mut [u8], depth: usize, at: usize, span:
         };
         tables::insert(scratch, depth, x, symbol);
         k += 3;
-        n -= 1;
     }
 }
 
