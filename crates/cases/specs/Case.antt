@@ -1,17 +1,16 @@
 -- A case: how many bytes of the space it takes, and what it took from the input.
-use Rattle.std.specs.Prelude.{ℕ, ◌/◌, ◌%◌, List, [], ◌∷◌, ◌++◌, Option, take}
+use Rattle.std.specs.Prelude.{ℕ, ◌/◌, ◌%◌, List, [], ◌∷◌, ◌++◌, Option, Some, None, take}
 use Rattle.std.specs.Io.KnownBytes.{Consumes}
-use Rattle.cases.specs.declared.Case.{Case}
 
-abbrev pub size_of : Case → ℕ
-size_of (Case.Tree n) = n
-size_of Case.End = 0
+abbrev pub size_of : Option ℕ → ℕ
+size_of (Some n) = n
+size_of None = 0
 
 -- a length in four bytes, the high one first
 abbrev pub length_bytes : ℕ → List ℕ
 length_bytes n = n / 16777216 ∷ n / 65536 % 256 ∷ n / 256 % 256 ∷ n % 256 ∷ []
 
 -- a tree, which the space holds, was taken from the input behind its length; `old` and `new` are what the input has left
-abbrev pub Taken : Option (List ℕ) → Option (List ℕ) → List ℕ → Case → Type 0
-Taken old new space (Case.Tree n) = Consumes old new (length_bytes n ++ take n space)
-Taken old new space Case.End = Unit {0}
+abbrev pub Taken : Option (List ℕ) → Option (List ℕ) → List ℕ → Option ℕ → Type 0
+Taken old new space (Some n) = Consumes old new (length_bytes n ++ take n space)
+Taken old new space None = Unit {0}

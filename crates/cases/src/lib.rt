@@ -1,21 +1,14 @@
 // Reads the trees of a file of cases, each behind its length in four bytes.
 #![tactic(auto)]
 
-ghost use Rattle.std.specs.Prelude.{◌<◌, ◌≤◌, length, take, IfOk};
+ghost use Rattle.std.specs.Prelude.{◌≡◌, ◌<◌, ◌≤◌, length, take, IfOk};
 ghost use Rattle.std.specs.Io.KnownBytes.{Consumes, IsAtEnd};
-ghost use Rattle.cases.specs.Case.{size_of, Taken};
+ghost use Rattle.cases.specs.Case.{size_of, length_bytes, Taken};
 
 use std::io;
 use std::io::Read;
-use text::wide;
 
-#[derive(Clone, Copy)]
-pub enum Case {
-    Tree(usize),
-    End,
-}
-
-// Reads until the buffer is full or the input ends: how many bytes were read.
+// Reads until the buffer is full or the input ends: how many bytes were read. (`read_exact` fails where the input ends.)
 pub fn read_full<R: Read>(input: &mut R, buffer: &mut [u8]) -> io::Result<usize>
     ensures bound { IfOk result (λ n. n ≤ length buffer.new) }
     ensures bytes { IfOk result (λ n. Consumes (R.remaining input.old) (R.remaining input.new) (take n buffer.new)) }
@@ -32,22 +25,28 @@ pub fn read_full<R: Read>(input: &mut R, buffer: &mut [u8]) -> io::Result<usize>
     Ok(at)
 }
 
-// The next tree, at the beginning of the space; the end also where it has no room or is cut short.
-pub fn next<R: Read>(input: &mut R, space: &mut [u8]) -> io::Result<Case>
+// A length in four bytes, the high one first.
+fn size_in(bytes: [u8; 4]) -> usize
+    ensures { length_bytes result ≡ bytes }
+{
+    u32::from_be_bytes(bytes) as usize
+}
+
+// The next tree, at the beginning of the space: its length. None at the end, also where it has no room or is cut short.
+pub fn next<R: Read>(input: &mut R, space: &mut [u8]) -> io::Result<Option<usize>>
     ensures size { IfOk result (λ c. size_of c ≤ length space.new) }
     ensures taken { IfOk result (Taken (R.remaining input.old) (R.remaining input.new) space.new) }
 {
     let mut size = [0u8; 4];
     if read_full(input, &mut size)? < 4 {
-        return Ok(Case::End);
+        return Ok(None);
     }
-    let high = wide(size[0]) * 256 + wide(size[1]);
-    let n = high * 65536 + wide(size[2]) * 256 + wide(size[3]);
+    let n = size_in(size);
     if space.len() < n {
-        return Ok(Case::End);
+        return Ok(None);
     }
     if read_full(input, &mut space[..n])? < n {
-        return Ok(Case::End);
+        return Ok(None);
     }
-    Ok(Case::Tree(n))
+    Ok(Some(n))
 }

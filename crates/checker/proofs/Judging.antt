@@ -1,15 +1,14 @@
 -- The judgements: of a program, of a file, of a call. Assumes nothing.
 use Prim.Native.Nat.{ℕ, ◌+◌, ◌≤◌, ◌<◌}
-use mathlib.Core.Path.{◌≡◌, refl, sym, ap, subst, ◌∙◌}
-use mathlib.Core.Bool.{false}
+use mathlib.Core.Path.{◌≡◌, refl, sym, ap, ◌∙◌}
 use mathlib.Core.List.{List, [], ◌∷◌, ◌++◌}
 use native.Mathlib.Omega.{arith}
 use native.Mathlib.Nat.{zero-add}
 use lib.ListN.{length, take, replicate}
+use Rattle.std.specs.Prelude.{Result, Ok, Err}
 use lib.Seq.{sets}
-use lib.Dec.{T}
 use borrow.Author.Tests.{lt-ltb, le-ltb}
-use Rattle.ast.specs.Tree.{Text, Program, no_stmt}
+use Rattle.ast.specs.Tree.{Program, no_stmt}
 use Rattle.tree.specs.Ans.{Ans, ok, refused, given, IsOk}
 use Rattle.tree.specs.Decode.{decode}
 use Rattle.sema.specs.Limits.{key_limit}
@@ -24,36 +23,34 @@ use Rattle.lines.specs.EmitLaws.{listing-stored}
 use Rattle.tables.specs.Tables.{cleared}
 use Rattle.claims.specs.Claim.{program_of, Claim}
 use Rattle.claims.proofs.Demand3.{demand_3}
-use Rattle.verdict.specs.declared.Answer.{Answer as AnswerValue}
-use Rattle.verdict.specs.Verdict.{answer_of, is_accepted, head_of, Learnt, Listable}
+use Rattle.refusal.specs.declared.Refused.{Refused}
+use Rattle.refusal.specs.declared.Refusal.TheVariants.{ManyKeys}
+use Rattle.refusal.specs.Refusal.{number_of}
+use Rattle.verdict.specs.declared.Listed.{Listed}
+use Rattle.verdict.specs.Verdict.{answer_of, head_of, Learnt, Listable}
 use Rattle.verdict.proofs.Judging.{few_of, judged-fine, listed-fine}
 use Rattle.checker.specs.declared.Outcome.{Outcome}
-use Rattle.checker.specs.Check.{SameRest, listing_for, Judged, JudgedFile, Ran, Staged, Told}
+use Rattle.checker.specs.Check.{SameRest, program_listing, listing_for, Judged, JudgedFile, Ran, Known}
 use Rattle.checker.proofs.Runs.{written}
+use Rattle.checker.proofs.Numbers.{Numbered}
 
 -- what the second walk leaves
-pub listing-written : (p : Program) → length (keys p) ≤ key_limit → (sink : Sink) → Learnt p sink → sink.errors + sink.warnings ≤ 256 → (t : List Text) → p.texts ≡ t → (l : List ℕ) → {s : List ℕ} {n : ℕ} {o : List ℕ} {r : Outcome} {s' o' : List ℕ}
+pub listing-written : (p : Program) → length (keys p) ≤ key_limit → (sink : Sink) → Learnt p sink → sink.errors + sink.warnings ≤ 256 → (l : List ℕ) → {s : List ℕ} {n : ℕ} {o : List ℕ} {r : Outcome} {s' o' : List ℕ}
     → o ≡ sets l 0 (head_of sink.errors sink.warnings) → n ≡ 0 + length (head_of sink.errors sink.warnings)
-    → Ran p n s o r s' o' → o' ≡ sets l 0 (listing_of t (analyze p))
+    → Ran p n s o r s' o' → o' ≡ sets l 0 (program_listing p)
 unfolding first_line
-listing-written p few sink k h t e l {s = s} {n = n} {o = o} {r = r} {s' = s'} {o' = o'} a b w =
+listing-written p few sink k h l {s = s} {n = n} {o = o} {r = r} {s' = s'} {o' = o'} a b w =
     let f = few_of p sink k h in
-    rw (← e)
-    (written p few n s o r s' o' w f
-    ∙ rw (a, b, k.errors f, k.warnings f, zero-add (length (ended (first_line (analyze p) ∷ [])))) (listing-stored p.texts (analyze p) l))
+    written p few n s o r s' o' w f
+    ∙ rw (a, b, k.errors f, k.warnings f, zero-add (length (ended (first_line (analyze p) ∷ [])))) (listing-stored p.texts (analyze p) l)
 
 -- what was kept, behind the first line, is the listing
-pub staged-written : (p : Program) (sink : Sink) → Learnt p sink → sink.errors + sink.warnings ≤ 256 → (t : List Text) → p.texts ≡ t → (l stage l' : List ℕ) → Staged p sink stage → sink.n ≤ length stage
-    → l' ≡ sets (sets l 0 (head_of sink.errors sink.warnings)) (length (head_of sink.errors sink.warnings)) (take sink.n stage) → l' ≡ sets l 0 (listing_of t (analyze p))
+pub staged-written : (p : Program) (sink : Sink) (stage : List ℕ) → Known p sink stage → sink.errors + sink.warnings ≤ 256 → (l l' : List ℕ) → sink.n ≤ length stage
+    → l' ≡ sets (sets l 0 (head_of sink.errors sink.warnings)) (length (head_of sink.errors sink.warnings)) (take sink.n stage) → l' ≡ sets l 0 (program_listing p)
 unfolding first_line
-staged-written p sink k h t e l stage l' s g w =
-    let f = few_of p sink k h in
-    rw (w, s.lines f g, k.errors f, k.warnings f, ← e) (listing-stored p.texts (analyze p) l)
-
-kept : (p : Program) (l : List ℕ) (a : Answer) → is_accepted a ≡ false → l ≡ listing_for p l a
-unfolding is_accepted
-kept p l (refusal n q) e = refl
-kept p l (accepted errors warnings size) e = absurd (subst T e tt)
+staged-written p sink stage k h l l' g w =
+    let f = few_of p sink k.learnt h in
+    rw (w, k.staged f g, k.learnt.errors f, k.learnt.warnings f) (listing-stored p.texts (analyze p) l)
 
 -- of a program: its keys first
 module _ (room : ℕ) (p : Program) where
@@ -65,26 +62,24 @@ module _ (room : ℕ) (p : Program) where
   unfolding judge_program
   keys_fit h = rw (le-ltb 256 (length (keys p)) h, judge_program)
 
--- the keys are few where the first run has not one too many
-pub told-few : {p : Program} {r : Outcome} {stage : List ℕ} → Told p r stage → (r.keys ≡ 257 → ⊥) → length (keys p) ≤ key_limit
-told-few {p = p} t n = omega (arith, t.counted)
-
 -- the ways out of `list`
-pub list-many : (p : Program) {s l s' : List ℕ} (r : Outcome) {stage : List ℕ} → Told p r stage → r.keys ≡ 257 → SameRest s s' → Judged p (judge_program (length l) p) s l (AnswerValue.Refused 7 0) s' l
-list-many p {l = l} r t e same = rw (keys-many (length l) p (omega (arith, t.counted))) (record { answers = refl; listed = refl; scratch = same })
+module _ (p : Program) {s l s' : List ℕ} where
+  pub list-many : key_limit < length (keys p) → SameRest s s' → Judged p (judge_program (length l) p) s l (Err (record { refusal = ManyKeys; place = 0 })) s' l
+  list-many h same = rw (keys-many (length l) p h) (record { answers = refl; listed = refl; scratch = same })
 
-module _ (p : Program) (few : length (keys p) ≤ key_limit) (t : List Text) (e : p.texts ≡ t) {s l s' : List ℕ} (sink : Sink) (k : Learnt p sink) (same : SameRest s s') (a : AnswerValue) (j : answer_of a ≡ judge_diagnostics (length l) p (analyze p)) where
-  pub list-refused : is_accepted (answer_of a) ≡ false → Judged p (judge_program (length l) p) s l a s' l
-  list-refused h = rw (keys_fit (length l) p few) (record { answers = j; listed = rw (← j) (kept p l (answer_of a) h); scratch = same })
+  module _ (few : length (keys p) ≤ key_limit) (same : SameRest s s') where
+    pub list-refused : (r : Refused) → answer_of (Err r) ≡ judge_diagnostics (length l) p (analyze p) → Judged p (judge_program (length l) p) s l (Err r) s' l
+    list-refused r j = rw (keys_fit (length l) p few, ← j) (record { answers = refl; listed = refl; scratch = same })
 
-  pub list-accepted : Listable sink (length l) → {s'' l'' : List ℕ} → l'' ≡ sets l 0 (listing_of t (analyze p)) → SameRest s' s'' → Judged p (judge_program (length l) p) s l a s'' l''
-  list-accepted f w q =
-      rw (keys_fit (length l) p few)
-      (record {
-        answers = j;
-        listed = w ∙ rw (judged-fine p sink k f.few (length l) f.fits, ← e) (listed-fine p sink k f.few l f.fits);
-        scratch = record { same_length = q.same_length ∙ same.same_length; same_rest = q.same_rest ∙ same.same_rest };
-      })
+    pub list-accepted : (x : Listed) → answer_of (Ok x) ≡ judge_diagnostics (length l) p (analyze p) → (sink : Sink) → Learnt p sink → Listable sink (length l)
+        → {s'' l'' : List ℕ} → l'' ≡ sets l 0 (program_listing p) → SameRest s' s'' → Judged p (judge_program (length l) p) s l (Ok x) s'' l''
+    list-accepted x j sink k f w q =
+        rw (keys_fit (length l) p few)
+        (record {
+          answers = j;
+          listed = w ∙ rw (judged-fine p sink k f.few (length l) f.fits) (listed-fine p sink k f.few l f.fits);
+          scratch = record { same_length = q.same_length ∙ same.same_length; same_rest = q.same_rest ∙ same.same_rest };
+        })
 
 -- of a file
 no_variant : {C : Type 0} {n q : ℕ} → Validated.Refused n q ≡ Validated.Accepted → C
@@ -100,9 +95,12 @@ unfolding validated IsOk
 file-accepted (ok p next) e = tt
 file-accepted (refused m r) e = no_variant (sym e)
 
-pub judged-refused : (tree s l : List ℕ) (n q : ℕ) → decode tree ≡ refused n q → JudgedFile tree s l (AnswerValue.Refused n q) s l
+pub file-numbered : (x : Ans Program) (n q : ℕ) → Numbered x → Validated.Refused n q ≡ validated x → (2 ≤ n) × (n ≤ 6)
+file-numbered x n q h e = rw (file-refused x n q e) at h
+
+pub judged-refused : (tree s l : List ℕ) (r : Refused) → decode tree ≡ refused (number_of r.refusal) r.place → JudgedFile tree s l (Err r) s l
 unfolding judge_file listing_after
-judged-refused tree s l n q e = record { answers = rw e; listed = rw e; scratch = record { same_length = refl; same_rest = refl } }
+judged-refused tree s l r e = record { answers = rw e; listed = rw e; scratch = record { same_length = refl; same_rest = refl } }
 
 program_of_lem : (x : Ans Program) (d : Program) (room : ℕ) → IsOk x → judge_file room x ≡ judge_program room (given d (λ p. p) x)
 unfolding judge_file IsOk given
@@ -119,7 +117,7 @@ unfolding listing_after program_of
 after_is tree l (refusal n q) h = refl
 after_is tree l (accepted e w size) h = rw (listing_of_lem (decode tree) (record { texts = []; statements = no_stmt }) h)
 
-pub judged-program : (tree s l : List ℕ) (r : AnswerValue) (s' l' : List ℕ) → IsOk (decode tree) → Judged (program_of tree) (judge_program (length l) (program_of tree)) s l r s' l' → JudgedFile tree s l r s' l'
+pub judged-program : (tree s l : List ℕ) (r : Result Listed Refused) (s' l' : List ℕ) → IsOk (decode tree) → Judged (program_of tree) (judge_program (length l) (program_of tree)) s l r s' l' → JudgedFile tree s l r s' l'
 unfolding program_of
 judged-program tree s l r s' l' h j =
     let e : judge_file (length l) (decode tree) ≡ judge_program (length l) (program_of tree) = program_of_lem (decode tree) (record { texts = []; statements = no_stmt }) (length l) h in
@@ -140,11 +138,11 @@ module _ (tree s l : List ℕ) where
   unfolding answer
   answer-long h = rw (le-ltb (length s) 65536 h, answer)
 
-  pub call-short : length s < 65536 → (answer_of (AnswerValue.Refused 1 0) ≡ answer tree (length s) (length l)) × (l ≡ listing_after tree l (answer tree (length s) (length l))) × (s ≡ scratch_after s)
+  pub call-short : length s < 65536 → (refusal 1 0 ≡ answer tree (length s) (length l)) × (l ≡ listing_after tree l (answer tree (length s) (length l))) × (s ≡ scratch_after s)
   unfolding listing_after scratch_after
   call-short h = (sym (answer-short h), rw (answer-short h), rw (lt-ltb (length s) 65536 h, scratch_after))
 
-  pub call-judged : 65536 ≤ length s → (r : AnswerValue) (s' l' s'' : List ℕ) → JudgedFile tree s l r s' l' → s'' ≡ cleared s'
+  pub call-judged : 65536 ≤ length s → (r : Result Listed Refused) (s' l' s'' : List ℕ) → JudgedFile tree s l r s' l' → s'' ≡ cleared s'
       → (answer_of r ≡ answer tree (length s) (length l)) × (l' ≡ listing_after tree l (answer tree (length s) (length l))) × (s'' ≡ scratch_after s)
   unfolding scratch_after cleared
   call-judged h r s' l' s'' j e =

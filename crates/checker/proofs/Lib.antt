@@ -1,3 +1,4 @@
 pub mod Programs
 pub mod Runs
 pub mod Judging
+pub mod Numbers

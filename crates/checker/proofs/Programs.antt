@@ -1,10 +1,10 @@
 -- The program of an accepted file, and what its walk begins with. Assumes nothing.
 use Prim.Native.Nat.{ℕ, ◌≤◌}
-use mathlib.Core.Path.{◌≡◌, ap}
+use mathlib.Core.Path.{◌≡◌}
 use mathlib.Core.List.{List}
 use native.Mathlib.Omega.{arith}
 use lib.ListN.{length}
-use Rattle.ast.specs.Tree.{Program, no_stmt}
+use Rattle.ast.specs.Tree.{no_stmt}
 use Rattle.tree.specs.Ans.{IsOk, next_of}
 use Rattle.tree.specs.Texts.{texts}
 use Rattle.tree.specs.Stmts.{body, stmt}
@@ -25,9 +25,6 @@ module _ (tree : List ℕ) (h : IsOk (decode tree)) (at : ℕ) (e : at ≡ next_
   pub program_is : program_of tree ≡ record { texts = texts_of tree; statements = value_or no_stmt (body (stmt (texts_of tree) 8) tree at) }
   unfolding program_of
   program_is = given_is (file_is tree h at e) _ (λ p. p)
-
-  pub program-texts : (program_of tree).texts ≡ texts_of tree
-  program-texts = ap (λ (p : Program). p.texts) program_is
 
   pub program-body : IsOk (body (stmt (texts_of tree) 8) tree at)
   program-body = file-body tree h at e

@@ -3,14 +3,14 @@ use Prim.Native.Nat.{ℕ, ◌+◌, ◌≤◌}
 use mathlib.Core.Path.{◌≡◌, sym, ap, ◌∙◌}
 use mathlib.Core.List.{List, [], ◌∷◌, ◌++◌}
 use native.Mathlib.Omega.{arith}
-use lib.ListN.{length, drop}
+use lib.ListN.{length, drop, take}
 use lib.Seq.{drop-drop, sets, sets-eq, take_at}
 use Rattle.ast.specs.Tree.{Program, no_stmt}
 use Rattle.tree.specs.Ans.{IsOk, next_of}
 use Rattle.tree.specs.Texts.{texts}
 use Rattle.tree.specs.Stmts.{body, stmt}
 use Rattle.tree.specs.Decode.{texts_of, decode}
-use Rattle.sema.specs.Limits.{key_limit}
+use Rattle.sema.specs.Limits.{key_limit, diagnostic_limit}
 use Rattle.sema.specs.Symbols.{empty}
 use Rattle.sema.specs.Marks.{Key, no_marks}
 use Rattle.sema.specs.Keys.{keys_stmts, keys}
@@ -29,7 +29,7 @@ use Rattle.promises.specs.Went.{body_keys, BodyWent}
 use Rattle.claims.specs.Claim.{program_of}
 use Rattle.verdict.specs.Verdict.{Learnt}
 use Rattle.checker.specs.declared.Outcome.{Outcome}
-use Rattle.checker.specs.Check.{Ran, Staged, Told, sink_at}
+use Rattle.checker.specs.Check.{Ran, Known, sink_at}
 use Rattle.checker.proofs.Programs.{program_is, program-body, new_context}
 
 -- what lies past the bytes of a call, by what lies past the tables
@@ -95,15 +95,14 @@ module _ (p : Program) (few : length (keys p) ≤ key_limit) where
   written n s o r s' o' w h = ap (λ (x : Written). x.out) ((w.emitted few).says ∙ emit-from p.texts (analyze p) o n (omega arith))
 
   -- and what it keeps in a stage that has room
-  staged : (s o : List ℕ) (r : Outcome) (s' o' : List ℕ) → Ran p 0 s o r s' o' → length o' ≡ length o → Staged p r.sink o'
-  staged s o r s' o' w e =
-      record {
-        lines = λ f g.
-            let xs = all_bytes p.texts (analyze p) in
-            let b : r.sink.n ≡ length xs = (learnt s o r s' o' w).bytes f in
-            let a : o' ≡ xs ++ drop (0 + length xs) o = written 0 s o r s' o' w f ∙ sets-eq xs o 0 (omega (arith, b)) in
-            rw a (take_at xs (drop (0 + length xs) o) r.sink.n (sym b));
-      }
+  staged : (s o : List ℕ) (r : Outcome) (s' o' : List ℕ) → Ran p 0 s o r s' o' → length o' ≡ length o → length (analyze p) ≤ diagnostic_limit → r.sink.n ≤ length o' → take r.sink.n o' ≡ all_bytes p.texts (analyze p)
+  staged s o r s' o' w e f g =
+      let xs = all_bytes p.texts (analyze p) in
+      let b : r.sink.n ≡ length xs = (learnt s o r s' o' w).bytes f in
+      let a : o' ≡ xs ++ drop (0 + length xs) o = written 0 s o r s' o' w f ∙ sets-eq xs o 0 (omega (arith, b)) in
+      rw a (take_at xs (drop (0 + length xs) o) r.sink.n (sym b))
 
-pub told : (p : Program) (s o : List ℕ) (r : Outcome) (s' o' : List ℕ) → Ran p 0 s o r s' o' → length o' ≡ length o → Told p r o'
-told p s o r s' o' w e = record { counted = w.counted; learnt = λ f. learnt p f s o r s' o' w; staged = λ f. staged p f s o r s' o' w e }
+pub known : (p : Program) (s o : List ℕ) (r : Outcome) (s' o' : List ℕ) → Ran p 0 s o r s' o' → length o' ≡ length o → (r.keys ≡ 257 → ⊥) → Known p r.sink o'
+known p s o r s' o' w e n =
+    let f : length (keys p) ≤ key_limit = omega (arith, w.counted) in
+    record { few = f; learnt = learnt p f s o r s' o' w; staged = staged p f s o r s' o' w e }

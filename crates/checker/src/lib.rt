@@ -4,20 +4,20 @@
 ghost use Rattle.std.specs.Prelude.{◌≡◌, ℕ, ◌+◌, ◌≤◌, length};
 ghost use Rattle.tree.specs.Ans.{IsOk, next_of};
 ghost use Rattle.tree.specs.Texts.{texts};
-ghost use Rattle.tree.specs.Decode.{texts_of, decode};
+ghost use Rattle.tree.specs.Decode.{decode};
 ghost use Rattle.sema.specs.Limits.{key_limit};
-ghost use Rattle.sema.specs.Stmts.{analyze};
 ghost use Rattle.sema.specs.Keys.{keys as keys_of};
 ghost use Rattle.answer.specs.Answer.{accepted, answer, judge_program, listing_after, scratch_after};
 ghost use Rattle.claims.specs.Claim.{program_of, Claim};
 ghost use Rattle.context.specs.View.{TextsAt};
-ghost use Rattle.listing.specs.Listing.{listing_of};
 ghost use Rattle.std.proofs.lemmas.List.Edits.{sets};
+ghost use Rattle.refusal.specs.Refusal.{number_of};
 ghost use Rattle.verdict.specs.Verdict.{answer_of, Learnt, Listable};
-ghost use Rattle.checker.specs.Check.{SameRest, Judged, JudgedFile, Ran, Staged, Told};
+ghost use Rattle.checker.specs.Check.{IsOk-prop, Prepared, SameRest, program_listing, Judged, JudgedFile, Ran, Known, Told};
 
 use context::{Index, Sink, State};
 use reader::Validated;
+use refusal::{Refusal, Refused};
 use sheet::new_keys::OVER;
 use verdict::Answer;
 
@@ -31,107 +31,110 @@ struct Outcome {
     keys: usize,
 }
 
-// One walk over the whole tree, behind n bytes of the listing.
-fn run(
-    tree: &[u8],
-    index: &mut Index,
-    scratch: &mut [u8],
-    out: &mut [u8],
+// A file that was accepted, and the place of its statements.
+#[derive(Clone, Copy)]
+struct File<'a> {
+    tree: &'a [u8],
     at: usize,
-    n: usize,
-) -> Outcome
-    requires { TextsAt tree.now index.old × (65536 ≤ length scratch.old) × IsOk (decode tree.now) × (at ≡ next_of (texts tree.now 0)) × (n ≤ 1024) }
-    ensures { Ran (program_of tree.now) n scratch.old out.old result scratch.new out.new × TextsAt tree.now index.new }
-{
-    tables::begin(scratch);
-    let sink = Sink {
-        n: n as u32,
-        errors: 0,
-        warnings: 0,
-    };
-    let marks = sheet::blank();
-    let r = walk::analyze_stmts(
-        tree,
-        index,
-        scratch,
-        out,
-        8,
-        State {
-            at,
-            sink,
-            keys: 0,
-            marks,
-        },
-    );
-    let sink = r.sink;
-    Outcome { sink, keys: r.keys }
+    ghost accepted: { IsOk (decode tree.now) } by { IsOk-prop (decode tree.now) },
+    ghost begins: { at ≡ next_of (texts tree.now 0) },
 }
 
-// The first walk: it learns the number of keys, the counts and the length. Its lines are kept in the stage, as far as that has room.
-fn learn(tree: &[u8], index: &mut Index, scratch: &mut [u8], stage: &mut [u8], at: usize) -> Outcome
-    requires { TextsAt tree.now index.old × (65536 ≤ length scratch.old) × IsOk (decode tree.now) × (at ≡ next_of (texts tree.now 0)) }
-    ensures { Told (program_of tree.now) result stage.new × SameRest scratch.old scratch.new × TextsAt tree.now index.new }
-{
-    run(tree, index, scratch, stage, at, 0)
-}
-
-// The second walk writes: the counts of the first are known, and the keys are few.
-fn write(
-    tree: &[u8],
-    index: &mut Index,
-    scratch: &mut [u8],
-    listing: &mut [u8],
-    at: usize,
-    sink: Sink,
-)
-    requires texts_at { TextsAt tree.now index.old × (65536 ≤ length scratch.old) × IsOk (decode tree.now) × (at ≡ next_of (texts tree.now 0)) }
-    requires tree_len_bound { (length (keys_of (program_of tree.now)) ≤ key_limit) × Learnt (program_of tree.now) sink × (sink.errors + sink.warnings ≤ 256) }
-    ensures { (listing.new ≡ sets listing.old 0 (listing_of (texts_of tree.now) (analyze (program_of tree.now)))) × SameRest scratch.old scratch.new }
-{
-    let head = lines::first_line(listing, sink.errors, sink.warnings);
-    run(tree, index, scratch, listing, at, head);
-}
-
-// The lines that the stage had room for, or those of a second walk.
-fn write_listing(
-    tree: &[u8],
-    index: &mut Index,
-    scratch: &mut [u8],
-    stage: &[u8],
-    listing: &mut [u8],
-    at: usize,
-    sink: Sink,
-)
-    requires texts_at { TextsAt tree.now index.old × (65536 ≤ length scratch.old) × IsOk (decode tree.now) × (at ≡ next_of (texts tree.now 0)) }
-    requires tree_len_bound { (length (keys_of (program_of tree.now)) ≤ key_limit) × Learnt (program_of tree.now) sink × Listable sink (length listing.old) × Staged (program_of tree.now) sink stage.now }
-    ensures { (listing.new ≡ sets listing.old 0 (listing_of (texts_of tree.now) (analyze (program_of tree.now)))) × SameRest scratch.old scratch.new }
-{
-    let n = sink.n as usize;
-    if n <= stage.len() {
-        verdict::write_staged(stage, listing, sink);
-    } else {
-        write(tree, index, scratch, listing, at, sink);
+impl File<'_> {
+    // One walk over the whole tree, behind n bytes of the listing.
+    fn run(self, index: &mut Index, scratch: &mut [u8], out: &mut [u8], n: usize) -> Outcome
+        requires { Prepared self.tree.now index.old scratch.old × (n ≤ 1024) }
+        ensures { Ran (program_of self.entry.tree.now) n scratch.old out.old result scratch.new out.new × TextsAt self.entry.tree.now index.new }
+    {
+        tables::begin(scratch);
+        let sink = Sink {
+            n: n as u32,
+            errors: 0,
+            warnings: 0,
+        };
+        let marks = sheet::blank();
+        let end = walk::analyze_stmts(
+            self.tree,
+            index,
+            scratch,
+            out,
+            8,
+            State {
+                at: self.at,
+                sink,
+                keys: 0,
+                marks,
+            },
+        );
+        Outcome {
+            sink: end.sink,
+            keys: end.keys,
+        }
     }
-}
 
-// The first walk learns the number of keys, the counts and the length; the listing is written where they are accepted.
-fn list(tree: &[u8], index: &mut Index, scratch: &mut [u8], listing: &mut [u8], at: usize) -> Answer
-    requires { TextsAt tree.now index.old × (65536 ≤ length scratch.old) × IsOk (decode tree.now) × (at ≡ next_of (texts tree.now 0)) }
-    ensures { Judged (program_of tree.now) (judge_program (length listing.old) (program_of tree.now)) scratch.old listing.old result scratch.new listing.new }
-{
-    let mut stage = [0u8; STAGE];
-    let first = learn(tree, index, scratch, &mut stage, at);
-    let keys = first.keys;
-    if keys == OVER {
-        return Answer::Refused(7, 0);
+    // The first walk: it learns whether the keys are too many, the counts and the length. Its lines are kept in the stage, as far as that
+    // has room.
+    fn learn(self, index: &mut Index, scratch: &mut [u8], stage: &mut [u8]) -> Result<Sink, Refused>
+        requires { Prepared self.tree.now index.old scratch.old }
+        ensures told { Told (program_of self.entry.tree.now) result stage.new }
+        ensures same { SameRest scratch.old scratch.new }
+        ensures placed { TextsAt self.entry.tree.now index.new }
+    {
+        let first = self.run(index, scratch, stage, 0);
+        if first.keys == OVER {
+            return Err(Refused {
+                refusal: Refusal::ManyKeys,
+                place: 0,
+            });
+        }
+        Ok(first.sink)
     }
-    let sink = first.sink;
-    let a = verdict::judge(sink, listing.len());
-    let fits = verdict::accepts(a);
-    if fits {
-        write_listing(tree, index, scratch, &stage, listing, at, sink);
+
+    // The second walk writes: the counts of the first are known, and the keys are few.
+    fn write(self, index: &mut Index, scratch: &mut [u8], listing: &mut [u8], sink: Sink)
+        requires prepared { Prepared self.tree.now index.old scratch.old }
+        requires few { length (keys_of (program_of self.tree.now)) ≤ key_limit }
+        requires learnt { Learnt (program_of self.tree.now) sink × (sink.errors + sink.warnings ≤ 256) }
+        ensures listed { listing.new ≡ sets listing.old 0 (program_listing (program_of self.entry.tree.now)) }
+        ensures same { SameRest scratch.old scratch.new }
+    {
+        let head = lines::first_line(listing, sink.errors, sink.warnings);
+        self.run(index, scratch, listing, head);
     }
-    a
+
+    // The lines that the stage had room for, or those of a second walk.
+    fn write_listing(
+        self,
+        index: &mut Index,
+        scratch: &mut [u8],
+        stage: &[u8],
+        listing: &mut [u8],
+        sink: Sink,
+    )
+        requires prepared { Prepared self.tree.now index.old scratch.old }
+        requires known { Known (program_of self.tree.now) sink stage.now }
+        requires listable { Listable sink (length listing.old) }
+        ensures listed { listing.new ≡ sets listing.old 0 (program_listing (program_of self.entry.tree.now)) }
+        ensures same { SameRest scratch.old scratch.new }
+    {
+        if sink.n as usize <= stage.len() {
+            verdict::write_staged(stage, listing, sink);
+        } else {
+            self.write(index, scratch, listing, sink);
+        }
+    }
+
+    // The first walk learns whether the keys are too many, the counts and the length; the listing is written where they are accepted.
+    fn list(self, index: &mut Index, scratch: &mut [u8], listing: &mut [u8]) -> Answer
+        requires { Prepared self.tree.now index.old scratch.old }
+        ensures { Judged (program_of self.entry.tree.now) (judge_program (length listing.old) (program_of self.entry.tree.now)) scratch.old listing.old result scratch.new listing.new }
+    {
+        let mut stage = [0u8; STAGE];
+        let sink = self.learn(index, scratch, &mut stage)?;
+        let listed = verdict::judge(sink, listing.len())?;
+        self.write_listing(index, scratch, &stage, listing, sink);
+        Ok(listed)
+    }
 }
 
 // A file that was accepted: its texts placed, its listing.
@@ -141,7 +144,21 @@ fn check_program(tree: &[u8], scratch: &mut [u8], listing: &mut [u8]) -> Answer
 {
     let mut index: Index = [0; 768];
     let at = index::place_texts(tree, &mut index);
-    list(tree, &mut index, scratch, listing, at)
+    File { tree, at }.list(&mut index, scratch, listing)
+}
+
+// The refusal of a file with this number.
+fn refusal_by(number: u8) -> Refusal
+    requires { (2 ≤ number) × (number ≤ 6) }
+    ensures { number_of result ≡ number }
+{
+    match number {
+        2 => Refusal::LongTree,
+        3 => Refusal::WrongEnd,
+        4 => Refusal::NotAllowed,
+        5 => Refusal::LargeCount,
+        _ => Refusal::TooDeep,
+    }
 }
 
 // Any bytes: refused as the file is read, or judged as a program.
@@ -149,9 +166,11 @@ fn check_file(tree: &[u8], scratch: &mut [u8], listing: &mut [u8]) -> Answer
     requires { 65536 ≤ length scratch.old }
     ensures { JudgedFile tree.now scratch.old listing.old result scratch.new listing.new }
 {
-    let v = reader::validate(tree);
-    match v {
-        Validated::Refused(number, place) => Answer::Refused(number, place),
+    match reader::validate(tree) {
+        Validated::Refused(number, place) => Err(Refused {
+            refusal: refusal_by(number),
+            place,
+        }),
         Validated::Accepted => check_program(tree, scratch, listing),
     }
 }
@@ -164,9 +183,12 @@ pub fn check(tree: &[u8], scratch: &mut [u8], listing: &mut [u8]) -> Answer
     ensures billed { (errors warnings size : ℕ) → answer_of result ≡ accepted errors warnings size → Claim tree.now listing.new size }
 {
     if scratch.len() < 65536 {
-        return Answer::Refused(1, 0);
+        return Err(Refused {
+            refusal: Refusal::ShortScratch,
+            place: 0,
+        });
     }
-    let a = check_file(tree, scratch, listing);
+    let answer = check_file(tree, scratch, listing);
     tables::clear(scratch); // whatever the answer
-    a
+    answer
 }

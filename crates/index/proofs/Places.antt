@@ -6,7 +6,7 @@ use mathlib.Core.Bool.{Bool, true, false, not, and-eq-true_iff}
 use mathlib.Core.Logic.{⊎_elim}
 use native.Mathlib.Omega.{arith}
 use native.Mathlib.Nat.{eq-or-lt_of_le}
-use lib.ListN.{length, get_or, take, set, length-set, length-append}
+use lib.ListN.{length, get_or, take, set, length-set, length-append, get_or-append}
 use lib.Seq.{take-append_seam, take-length, take-take, get_or_at, get_or-take, get_or-set_same, get_or-set_other}
 use lib.Dec.{leb}
 use borrow.Author.Tests.{leb-true}
@@ -81,8 +81,7 @@ more_begins (suc n) earlier s at h =
 -- i of n texts are placed, and the others are read from `at` on
 pub record Placing (s index : List ℕ) (n i at : ℕ) : Type 0 where
   pub fine : IsOk (texts s 0)
-  pub size : length index ≡ 768
-  pub few : n ≤ texts_limit
+  pub room : n ≤ length index
   pub count : length (take i (texts_of s)) ≡ i
   pub same : texts s 0 ≡ more_texts (n - i) (take i (texts_of s)) s at
   pub each : (x : ℕ) → x < i → TextAt s index x
@@ -92,15 +91,20 @@ module _ (s : List ℕ) (h : IsOk (decode s)) where
   unfolding texts
   count_in = number_in s 0 2 (field _ _ (past-here _ (start (file-texts s h))))
 
-  pub placing_start : (index : List ℕ) (n : ℕ) → length index ≡ 768 → n ≡ number_at 2 s 0 → Placing s index n 0 2
+  counted-goes : Goes (texts s 0) (◌>>◌ (check (leb (number_at 2 s 0) texts_limit) 5 0) (more_texts (number_at 2 s 0) [])) s 2
   unfolding texts
+  counted-goes = known _ _ 2 (number_is s 0 2) refl (past-here _ (start (file-texts s h)))
+
+  pub few_placed : (n : ℕ) → n ≡ number_at 2 s 0 → n ≤ texts_limit
+  few_placed n e = rw e (leb-true _ _ (checked _ _ _ _ counted-goes))
+
+  pub placing_start : (index : List ℕ) (n : ℕ) → n ≤ length index → n ≡ number_at 2 s 0 → Placing s index n 0 2
   placing_start index n l e =
-      let g = known _ _ 2 (number_is s 0 2) refl (past-here _ (start (file-texts s h))) in
+      let g = counted-goes in
       let z : n - 0 ≡ n = omega arith in
       record {
         fine = file-texts s h;
-        size = l;
-        few = rw e (leb-true _ _ (checked _ _ _ _ g));
+        room = l;
         count = refl;
         same = rw (z, e) (past-check _ _ _ _ g).is;
         each = λ x b. absurd (omega arith);
@@ -141,7 +145,7 @@ module _ (s index : List ℕ) (n i at : ℕ) (p : Placing s index n i at) where
     text-here = sym (get_or-take (i + 1) (texts_of s) i [] (omega arith)) ∙ ap (λ t. get_or t i []) taken ∙ get_or_at before (text_at s at) [] [] i p.count
 
     placed : text_place (set index i at) i ≡ at
-    placed = get_or-set_same index i at 0 (omega (arith, p.size, p.few))
+    placed = get_or-set_same index i at 0 (omega (arith, p.room))
 
     text-placed : TextAt s (set index i at) i
     text-placed =
@@ -155,20 +159,27 @@ module _ (s index : List ℕ) (n i at : ℕ) (p : Placing s index n i at) where
         (λ (q : x < i). text_moved s index (set index i at) x (p.each x q) (get_or-set_other index i x at 0 (omega arith)))
         (eq-or-lt_of_le (omega arith))
 
-    pub placing_more : (b : ℕ) → b ≡ get_or s at 0 → Placing s (set index i at) n (i + 1) (at + 1 + b)
-    placing_more b e = record {
+    pub placing_more : (end : ℕ) → end ≡ past s at → Placing s (set index i at) n (i + 1) end
+    placing_more end e = record {
       fine = p.fine;
-      size = length-set index i at ∙ p.size;
-      few = p.few;
+      room = omega (arith, p.room, length-set index i at);
       count = ap length taken ∙ counted;
       same = rw (e, taken) next;
       each = each_placed;
     }
 
-  pub placing_end : n ≤ i → (at ≡ next_of (texts s 0)) × TextsAt s index
+  pub placing_end : n ≤ i → i ≤ length index → (rest : List ℕ) → length (index ++ rest) ≡ 768 → (at ≡ next_of (texts s 0)) × TextsAt s (index ++ rest)
   unfolding more_texts done
-  placing_end l =
+  placing_end l k rest e =
       let z : n - i ≡ 0 = omega arith in
       let t : texts s 0 ≡ ok before at = rw z at p.same in
-      let all = sym texts-value ∙ value_is t [] in
-      (sym (next_is t), record { size = p.size; few = texts-few s p.fine; each = λ x b. p.each x (omega (arith, ap length all, p.count)) })
+      let all = sym texts-value ∙ value_is t [] in (
+        sym (next_is t),
+        record {
+          size = e;
+          few = texts-few s p.fine;
+          each = λ x b.
+              let below : x < i = omega (arith, ap length all, p.count) in
+              text_moved s index (index ++ rest) x (p.each x below) (get_or-append index rest 0 x (omega arith));
+        },
+      )

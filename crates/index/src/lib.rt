@@ -8,7 +8,6 @@ ghost use Rattle.tree.specs.Decode.{decode};
 ghost use Rattle.context.specs.View.{TextsAt};
 
 use accepted::numbers::u16_at;
-use text::wide;
 
 // The places of the texts' length bytes, and the place past the texts.
 pub fn place_texts(tree: &[u8], index: &mut [u64]) -> usize
@@ -17,11 +16,9 @@ pub fn place_texts(tree: &[u8], index: &mut [u64]) -> usize
 {
     let n = u16_at(tree, 0);
     let mut at = 2;
-    let mut i = 0;
-    while i < n {
-        index[i] = at as u64;
-        at = at + 1 + wide(tree[at]);
-        i += 1;
+    for place in &mut index[..n] {
+        *place = at as u64;
+        at += 1 + usize::from(tree[at]);
     }
     at
 }

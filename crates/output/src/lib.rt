@@ -17,7 +17,7 @@ pub fn print<W: Write>(out: &mut W, a: Answer, listing: &[u8]) -> io::Result<()>
     ensures { OnOk result (Appends (W.contents out.old) (W.contents out.new) (printed (answer_of a) listing.now)) }
 {
     match a {
-        Answer::Refused(number, place) => writeln!(out, "refused {number} {place}"),
-        Answer::Accepted(_, _, size) => out.write_all(&listing[..size]),
+        Ok(listed) => out.write_all(&listing[..listed.size]),
+        Err(refused) => writeln!(out, "{refused}"),
     }
 }

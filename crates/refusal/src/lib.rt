@@ -1,8 +1,8 @@
 // Why a call is refused, and where.
 #![tactic(auto)]
 
-ghost use Rattle.std.specs.Prelude.{◌≡◌};
-ghost use Rattle.refusal.specs.Refusal.{number_of};
+ghost use Rattle.std.specs.Prelude.{◌≡◌, Some};
+ghost use Rattle.refusal.specs.Refusal.{number_of, text_of};
 
 use std::fmt;
 
@@ -45,6 +45,8 @@ impl From<Refusal> for u8 {
 }
 
 impl fmt::Display for Refused {
+    ghost output = { λ refused. Some (text_of refused) };
+
     fn fmt<W: fmt::Write>(&self, f: &mut fmt::Formatter<W>) -> fmt::Result {
         write!(f, "refused {} {}", u8::from(self.refusal), self.place)
     }

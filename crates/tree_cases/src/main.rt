@@ -1,10 +1,9 @@
 // Validates the trees on standard input, each behind its length in four bytes, and prints a line for each.
 #![tactic(auto)]
 
-use cases::Case;
 use reader::Validated;
 use std::io;
-use std::io::{Read, Write};
+use std::io::Write;
 
 // More cases than the input has.
 const CASES: usize = 10000;
@@ -16,25 +15,15 @@ fn print<W: Write>(out: &mut W, answer: Validated) -> io::Result<()> {
     }
 }
 
-// Whether there was a tree.
-fn run_next<R: Read, W: Write>(input: &mut R, out: &mut W, space: &mut [u8]) -> io::Result<bool> {
-    match cases::next(input, space)? {
-        Case::End => Ok(false),
-        Case::Tree(n) => {
-            print(out, reader::validate(&space[..n]))?;
-            Ok(true)
-        }
-    }
-}
-
 fn main(rt: HostRuntime) -> io::Result<()> {
     let mut space = [0u8; 65536];
     let mut input = rt.stdin();
     let mut out = rt.stdout();
     for _ in 0..CASES {
-        if !run_next(&mut input, &mut out, &mut space)? {
+        let Some(n) = cases::next(&mut input, &mut space)? else {
             break;
-        }
+        };
+        print(&mut out, reader::validate(&space[..n]))?;
     }
     Ok(())
 }

@@ -1,14 +1,12 @@
 -- The judgement of diagnostics by the counts and the length that were learnt. Assumes nothing.
 use Prim.Native.Nat.{ℕ, ◌+◌, ◌≤◌, ◌<◌}
-use mathlib.Core.Path.{◌≡◌, sym, subst, ◌∙◌}
-use mathlib.Core.Bool.{true}
+use mathlib.Core.Path.{◌≡◌, sym, ◌∙◌}
 use mathlib.Core.List.{List, [], ◌∷◌, ◌++◌}
 use native.Mathlib.Omega.{arith}
 use native.Mathlib.Decide.{dec_le}
 use native.Mathlib.Nat.{zero-add}
 use lib.ListN.{length, drop, length-append}
 use lib.Seq.{sets, sets-eq}
-use lib.Dec.{T}
 use borrow.Author.Tests.{lt-ltb, le-ltb}
 use Rattle.ast.specs.Tree.{Program}
 use Rattle.sema.specs.Messages.{Diagnostic, Error, Warning}
@@ -17,8 +15,7 @@ use Rattle.listing.specs.Listing.{ended, count_of, first_line, listing_of}
 use Rattle.answer.specs.Answer.{accepted, refusal, unless_refused, judge_listing, judge_diagnostics}
 use Rattle.context.specs.declared.Sink.{Sink}
 use Rattle.lines.specs.EmitLaws.{all_bytes, listing-parts}
-use Rattle.verdict.specs.declared.Answer.{Answer as AnswerValue}
-use Rattle.verdict.specs.Verdict.{answer_of, is_accepted, head_of, Learnt, Listable}
+use Rattle.verdict.specs.Verdict.{head_of, Learnt}
 
 -- the judgement by its tests
 module _ (room : ℕ) (p : Program) (ds : List Diagnostic) where
@@ -71,22 +68,15 @@ module _ (p : Program) (sink : Sink) (l : Learnt p sink) where
         → sets buffer 0 (listing_of p.texts (analyze p)) ≡ listing_of p.texts (analyze p) ++ drop (length (head_of sink.errors sink.warnings) + sink.n) buffer
     listed-fine buffer g = sets-eq (listing_of p.texts (analyze p)) buffer 0 (omega (arith, size_is)) ∙ rw (size_is, zero-add (length (listing_of p.texts (analyze p))))
 
-no_listing : {C : Type 0} (n q : ℕ) → is_accepted (refusal n q) ≡ true → C
-unfolding is_accepted
-no_listing n q e = absurd (subst T (sym e) tt)
-
 -- the ways out of `judge`
 module _ (sink : Sink) (room : ℕ) where
-  pub too_many : 256 < sink.errors + sink.warnings
-      → ((p : Program) → Learnt p sink → answer_of (AnswerValue.Refused 8 0) ≡ judge_diagnostics room p (analyze p)) × (is_accepted (answer_of (AnswerValue.Refused 8 0)) ≡ true → Listable sink room)
-  too_many h = ((λ p l. sym (judged-many p sink l h room)), (λ e. no_listing 8 0 e))
+  module _ (h : 256 < sink.errors + sink.warnings) where
+    pub judges-many : (p : Program) → Learnt p sink → refusal 8 0 ≡ judge_diagnostics room p (analyze p)
+    judges-many p l = sym (judged-many p sink l h room)
 
   module _ (h : sink.errors + sink.warnings ≤ 256) (size : ℕ) (e : size ≡ length (head_of sink.errors sink.warnings) + sink.n) where
-    pub too_long : room < size
-        → ((p : Program) → Learnt p sink → answer_of (AnswerValue.Refused 9 0) ≡ judge_diagnostics room p (analyze p)) × (is_accepted (answer_of (AnswerValue.Refused 9 0)) ≡ true → Listable sink room)
-    too_long g = ((λ p l. sym (judged-long p sink l h room (omega (arith, e)))), (λ e. no_listing 9 0 e))
+    pub judges-long : room < size → (p : Program) → Learnt p sink → refusal 9 0 ≡ judge_diagnostics room p (analyze p)
+    judges-long g p l = sym (judged-long p sink l h room (omega (arith, e)))
 
-    pub fine : size ≤ room
-        → ((p : Program) → Learnt p sink → answer_of (AnswerValue.Accepted sink.errors sink.warnings size) ≡ judge_diagnostics room p (analyze p))
-        × (is_accepted (answer_of (AnswerValue.Accepted sink.errors sink.warnings size)) ≡ true → Listable sink room)
-    fine g = ((λ p l. rw e (sym (judged-fine p sink l h room (omega (arith, e))))), (λ _. record { few = h; fits = omega (arith, e) }))
+    pub judges-fine : size ≤ room → (errors warnings : ℕ) → errors ≡ sink.errors → warnings ≡ sink.warnings → (p : Program) → Learnt p sink → accepted errors warnings size ≡ judge_diagnostics room p (analyze p)
+    judges-fine g errors warnings a b p l = rw (a, b, e) (sym (judged-fine p sink l h room (omega (arith, e))))

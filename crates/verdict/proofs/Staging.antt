@@ -1,7 +1,7 @@
 -- Lines kept in a stage and stored behind the first line. Assumes nothing.
 use Rattle.std.proofs.Common.{arith, ℕ, ◌+◌, ◌-◌, ◌≤◌, ◌≡◌, List, length, take, drop, sym, ◌∙◌, append_assoc}
 use Rattle.std.proofs.Math.Nat.{zero-add}
-use Rattle.std.proofs.Math.ListN.{length-take, length-drop}
+use Rattle.std.proofs.Math.ListN.{length-take}
 use Rattle.std.proofs.Math.Seq.{sets, length-sets, sets-eq, drop-drop}
 use borrow.Rule.Slice.PartMut.{put_mid}
 use Rattle.lines.specs.Stored.{Wrote}
@@ -14,11 +14,8 @@ module _ (l : List ℕ) (errors warnings : ℕ) (stage : List ℕ) (head n : ℕ
   kept : length (take n stage) ≡ n
   kept = omega (arith, length-take n stage)
 
-  pub staged_end : head + n ≤ length o
+  staged_end : head + n ≤ length o
   staged_end = omega (arith, same, w.after)
-
-  pub staged-room : length (take (head + n - head) (drop head o)) ≡ length (take n stage)
-  staged-room = omega (arith, same, kept, w.after, length-take (head + n - head) (drop head o), length-drop head o)
 
   pub staged-behind : (d : List ℕ) → d ≡ take n stage
       → put_mid head (head + n - head) o d ≡ sets (sets l 0 (head_of errors warnings)) (length (head_of errors warnings)) (take n stage)

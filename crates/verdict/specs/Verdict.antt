@@ -1,5 +1,5 @@
 -- The answer of the code, and what the first walk learns of a program.
-use Rattle.std.specs.Prelude.{ℕ, ◌+◌, ◌≤◌, ◌<◌, ◌≡◌, Bool, true, false, List, [], ◌∷◌, length}
+use Rattle.std.specs.Prelude.{ℕ, ◌+◌, ◌≤◌, ◌<◌, ◌≡◌, Bool, true, false, List, [], ◌∷◌, length, Result, Ok, Err}
 use Rattle.text.specs.Text.{text}
 use Rattle.text.specs.Decimal.{decimal}
 use Rattle.ast.specs.Tree.{Program}
@@ -11,14 +11,16 @@ use Rattle.context.specs.declared.Sink.{Sink}
 use Rattle.context.specs.Sink.{SinkFits}
 use Rattle.lines.specs.EmitLaws.{all_bytes}
 use Rattle.answer.specs.Answer.{Answer, accepted, refusal}
-use Rattle.verdict.specs.declared.Answer.{Answer as AnswerValue}
+use Rattle.refusal.specs.declared.Refused.{Refused}
+use Rattle.refusal.specs.Refusal.{number_of}
+use Rattle.verdict.specs.declared.Listed.{Listed}
 
 -- the answer of the code: errors, warnings and length where the tree is accepted, number and place where it is refused
-abbrev pub answer_of : AnswerValue → Answer
-answer_of (AnswerValue.Accepted errors warnings size) = accepted errors warnings size
-answer_of (AnswerValue.Refused number place) = refusal number place
+abbrev pub answer_of : Result Listed Refused → Answer
+answer_of (Ok l) = accepted l.errors l.warnings l.size
+answer_of (Err r) = refusal (number_of r.refusal) r.place
 
-unfoldable pub is_accepted : Answer → Bool
+abbrev pub is_accepted : Answer → Bool
 is_accepted (accepted errors warnings size) = true
 is_accepted (refusal number place) = false
 

@@ -10,20 +10,24 @@ ghost use Rattle.answer.specs.Answer.{judge_diagnostics};
 ghost use Rattle.verdict.specs.Verdict.{answer_of, is_accepted, head_of, Learnt, Listable};
 
 use context::Sink;
+use refusal::{Refusal, Refused};
 
+// What an accepted tree has: how many errors and warnings, and the length of its listing.
 #[derive(Clone, Copy)]
-pub enum Answer {
-    Accepted(usize, usize, usize),
-    Refused(u8, usize),
+pub struct Listed {
+    pub errors: usize,
+    pub warnings: usize,
+    pub size: usize,
 }
+
+pub type Answer = Result<Listed, Refused>;
 
 // The length of the first line.
 fn head_size(sink: Sink) -> usize
     requires { (sink.errors ≤ 256) × (sink.warnings ≤ 256) }
     ensures { (result ≡ length (head_of sink.errors sink.warnings)) × (result ≤ 1024) }
 {
-    let mut none = [0u8; 1];
-    lines::first_line(&mut none, sink.errors, sink.warnings)
+    lines::first_line(&mut [], sink.errors, sink.warnings)
 }
 
 // By the counts and the length of the lines, for a listing buffer of so many bytes.
@@ -33,26 +37,27 @@ pub fn judge(sink: Sink, room: usize) -> Answer
     ensures fits { is_accepted (answer_of result) ≡ true → Listable sink room }
 {
     let n = sink.n as usize;
-    let errors = sink.errors as usize;
-    let warnings = sink.warnings as usize;
+    let errors = usize::from(sink.errors);
+    let warnings = usize::from(sink.warnings);
     let count = errors + warnings;
     if 256 < count {
-        return Answer::Refused(8, 0);
+        return Err(Refused {
+            refusal: Refusal::ManyDiagnostics,
+            place: 0,
+        });
     }
     let size = head_size(sink) + n;
     if room < size {
-        return Answer::Refused(9, 0);
+        return Err(Refused {
+            refusal: Refusal::LongListing,
+            place: 0,
+        });
     }
-    Answer::Accepted(errors, warnings, size)
-}
-
-pub fn accepts(a: Answer) -> bool
-    ensures { result ≡ is_accepted (answer_of a) }
-{
-    match a {
-        Answer::Accepted(_, _, _) => true,
-        Answer::Refused(_, _) => false,
-    }
+    Ok(Listed {
+        errors,
+        warnings,
+        size,
+    })
 }
 
 // The lines that a stage had room for, behind the first line.
