@@ -102,7 +102,7 @@ pub fn check_measure_widths(
 }
 
 fn check_use_after_measure(
-    m: Measured<'_>,
+    m: Measured<'_, '_>,
     out: &mut [u8],
     op: GateOperand,
     span: Span,
@@ -140,7 +140,7 @@ fn is_quiet(sema: SemaContext<'_>, op: GateOperand, expected: Expected) -> bool
 }
 
 // An operand of a gate call, a barrier or a delay. Of most there is nothing to say but of their use.
-fn use_operand(m: Measured<'_>, out: &mut [u8], op: GateOperand, span: Span, sink: Sink) -> Sink
+fn use_operand(m: Measured<'_, '_>, out: &mut [u8], op: GateOperand, span: Span, sink: Sink) -> Sink
     requires { (op.name < length (texts m.sema)) × SinkFits sink }
     ensures { Emitted (texts m.entry.sema) (check_operand (scopes m.entry.sema) (operand_of op) a_qubit ++ check_use_after_measure (marks m.entry) (operand_of op) span) sink out.old result out.new }
 {
@@ -152,7 +152,7 @@ fn use_operand(m: Measured<'_>, out: &mut [u8], op: GateOperand, span: Span, sin
 }
 
 // Has such an operand an index and no slice, and is there nothing to say of it?
-fn passes(m: Measured<'_>, at: usize) -> bool
+fn passes(m: Measured<'_, '_>, at: usize) -> bool
     requires { IsOk (operand (texts m.sema) m.sema.tree.now at) }
     ensures { (sp : Span) → result ≡ passing (texts m.entry.sema) m.entry.sema.tree.now (scopes m.entry.sema) (marks m.entry) sp at }
 {
@@ -165,7 +165,7 @@ fn passes(m: Measured<'_>, at: usize) -> bool
 }
 
 // A Vec of them.
-pub fn use_operands(m: Measured<'_>, out: &mut [u8], at: usize, span: Span, sink: Sink) -> Sink
+pub fn use_operands(m: Measured<'_, '_>, out: &mut [u8], at: usize, span: Span, sink: Sink) -> Sink
     requires { IsOk (vec (operand (texts m.sema)) m.sema.tree.now at) × SinkFits sink }
     ensures { Emitted (texts m.entry.sema) (given [] (use_operands (scopes m.entry.sema) (marks m.entry) span) (vec (operand (texts m.entry.sema)) m.entry.sema.tree.now at)) sink out.old result out.new }
 {

@@ -8,10 +8,10 @@ use context::SemaContext;
 
 // The mark sheet, and how many keys of the index it is for.
 #[derive(Clone, Copy)]
-pub struct Measured<'a> {
+pub struct Measured<'a, 'm> {
     pub sema: SemaContext<'a>,
     pub keys: usize,
-    pub marks: &'a [u16; 256],
+    pub marks: &'m [u16; 256],
     pub ghost indexed: { Indexed sema.index.now keys },
     pub ghost distinct: { Distinct (keys_in sema.index.now keys) } by { distinct_once (keys_in sema.index.now keys) },
     pub ghost placed: { Placed sema.tree.now marks.now } by { Prim.hlevel (props, place_once) },

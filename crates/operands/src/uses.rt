@@ -31,7 +31,7 @@ pub fn measure_span(tree: &[u8], place: usize) -> Span
 
 // The smallest index of the slice that a mark covers.
 pub fn check_slice_use(
-    m: Measured<'_>,
+    m: Measured<'_, '_>,
     out: &mut [u8],
     x: usize,
     a: u64,

@@ -10,6 +10,7 @@ use lib.ListN.{get_or}
 use Rattle.std.specs.Prelude.{Option, Some, None}
 use lib.Dec.{eqb}
 use borrow.Author.Tests.{eqb-true, eqb-false, eq-eqb, ne_eqb}
+use Rattle.span.specs.declared.Span.{Span}
 use Rattle.ast.specs.Tree.{Text}
 use Rattle.gates.specs.Gates.{lower, signature_of}
 use Rattle.gates.specs.declared.StandardGate.{StandardGate}
@@ -17,7 +18,6 @@ use Rattle.sema.specs.Messages
 use Rattle.sema.specs.Symbols.{GateSig, Table}
 use Rattle.sema.specs.Operands.{unless}
 use Rattle.context.specs.declared.Sink.{Sink}
-use Rattle.std.specs.Prelude.{Option as Maybe, Some, None}
 use Rattle.context.specs.declared.GateSig.{GateSig as GateValue}
 use Rattle.context.specs.Sink.{SinkFits}
 use Rattle.context.specs.Values.{found_gate_of}
@@ -51,12 +51,12 @@ module _ (c : Call) (params qubits : ℕ) where
   pub arity_unlike : (c.params ≡ params → ⊥) → false ≡ fits_arity c params qubits
   arity_unlike e = rw (ne_eqb c.params params e)
 
-  pub arity_fits : {t : List Text} (decl : Maybe (Note × Span)) {s : Sink} {o : List ℕ} (b : Bool) → b ≡ fits_arity c params qubits → b ≡ true → SinkFits s → Emitted t (arity_by c params qubits (secondary_of decl)) s o s o
+  pub arity_fits : {t : List Text} (decl : Option (Note × Span)) {s : Sink} {o : List ℕ} (b : Bool) → b ≡ fits_arity c params qubits → b ≡ true → SinkFits s → Emitted t (arity_by c params qubits (secondary_of decl)) s o s o
   arity_fits decl b is e f =
       let g = (and-eq-true_iff (eqb c.params params) (eqb c.args (qubits + c.controls))).0 (sym is ∙ e) in
       emitted_then (unless_holds _ _ g.0 f) (unless_holds _ _ g.1 f)
 
-module _ {t : List Text} (c : Call) (n : ℕ) (decl : Maybe (Note × Span)) {s : Sink} {o : List ℕ} where
+module _ {t : List Text} (c : Call) (n : ℕ) (decl : Option (Note × Span)) {s : Sink} {o : List ℕ} where
   pub params_fit : c.params ≡ n → SinkFits s → Emitted t (params_by c n (secondary_of decl)) s o s o
   params_fit e f = unless_holds _ _ (eq-eqb c.params n e) f
 
@@ -94,7 +94,7 @@ module _ (t : List Text) (c : Call) {text : List ℕ} (e : Shown text (name_at t
   standard_none k l m = emitted_as (emitted-one (rw l at m)) (ap (standard_by c) (sym k ∙ signature_is))
 
 -- a definition of the program, or none
-module _ {t : List Text} (gs : Table GateSig) (c : Call) {s : Sink} {o : List ℕ} {f : Maybe GateValue} (e : found_gate_of f ≡ gs c.name) where
+module _ {t : List Text} (gs : Table GateSig) (c : Call) {s : Sink} {o : List ℕ} {f : Option GateValue} (e : found_gate_of f ≡ gs c.name) where
   pub undefined : {r : Sink} {o' : List ℕ} → f ≡ None → Emitted t (standard_of t c) s o r o' → Emitted t (signature_by t gs c) s o r o'
   unfolding signature_by
   undefined k m = rw (← e, k, signature_by) m

@@ -10,6 +10,8 @@ ghost use Rattle.sema.specs.Exprs.{check_modifiers};
 ghost use Rattle.sema.specs.Operands.{use_operands};
 ghost use Rattle.sema.specs.Stmts.{params_say, widths_say, register_widths};
 ghost use Rattle.context.specs.Sink.{SinkFits};
+ghost use Rattle.context.specs.Given.{texts, scopes, functions};
+ghost use Rattle.operands.specs.Measured.{marks};
 ghost use Rattle.context.specs.View.{TextsAt, Placed, scopes_of, gates_of, functions_of, keys_in, marks_of};
 ghost use Rattle.accepted.specs.Parts.{value_or};
 ghost use Rattle.lines.specs.Values.{secondary_of, NoteBelow};
@@ -21,11 +23,11 @@ ghost use Rattle.operations.specs.Calls.{CallOf, params_by, qubits_by, fits_arit
 use accepted::exprs::skip_exprs;
 use accepted::numbers::{span_at, u16_at};
 use accepted::parts::skip_operands;
-use context::{GateSig, Index, Sink};
+use context::{GateSig, Index, SemaContext, Sink};
 use lines::pieces::name_of;
 use lines::{Diagnostic, Message, Note, Severity};
+use operands::Measured;
 use span::Span;
-use text::wide;
 
 // What a gate call is made of: its name, the numbers of its parameters, arguments and controls, the places of the Vecs, its end and span.
 #[derive(Clone, Copy)]
@@ -49,8 +51,8 @@ pub fn call_at(tree: &[u8], at: usize, left: usize) -> Call
     let args_at = skip_exprs(tree, params_at, 32);
     let end = skip_operands(tree, args_at);
     let name = u16_at(tree, at + 1);
-    let params = wide(tree[params_at]);
-    let args = wide(tree[args_at]);
+    let params = usize::from(tree[params_at]);
+    let args = usize::from(tree[args_at]);
     // 0 for arity where there is no total
     let controls = c.value.unwrap_or(0);
     let span = span_at(tree, end);
@@ -70,23 +72,19 @@ pub fn call_at(tree: &[u8], at: usize, left: usize) -> Call
 fn is_arity(args: usize, qubits: usize, controls: u64) -> bool
     ensures { result ≡ eqb args (qubits + controls) }
 {
-    if args < qubits {
-        return false;
-    }
-    (args - qubits) as u64 == controls
+    qubits <= args && (args - qubits) as u64 == controls
 }
 
 fn check_param_count(
-    tree: &[u8],
-    index: &Index,
+    sema: SemaContext<'_>,
     out: &mut [u8],
     call: Call,
     params: usize,
     decl: Option<(Note, Span)>,
     sink: Sink,
 ) -> Sink
-    requires { TextsAt tree.now index.now × (call.name < length (texts_of tree.now)) × NoteBelow (length (texts_of tree.now)) decl × SinkFits sink }
-    ensures { Emitted (texts_of tree.now) (params_by call params (secondary_of decl)) sink out.old result out.new }
+    requires { (call.name < length (texts sema)) × NoteBelow (length (texts sema)) decl × SinkFits sink }
+    ensures { Emitted (texts sema.entry) (params_by call params (secondary_of decl)) sink out.old result out.new }
 {
     let got = call.params;
     if got == params {
@@ -100,20 +98,19 @@ fn check_param_count(
         span,
         secondary: decl,
     };
-    lines::report(out, sink, tree, index, d)
+    lines::report(out, sink, sema.tree, sema.index, d)
 }
 
 fn check_qubit_count(
-    tree: &[u8],
-    index: &Index,
+    sema: SemaContext<'_>,
     out: &mut [u8],
     call: Call,
     qubits: usize,
     decl: Option<(Note, Span)>,
     sink: Sink,
 ) -> Sink
-    requires { TextsAt tree.now index.now × (call.name < length (texts_of tree.now)) × NoteBelow (length (texts_of tree.now)) decl × SinkFits sink }
-    ensures { Emitted (texts_of tree.now) (qubits_by call qubits (secondary_of decl)) sink out.old result out.new }
+    requires { (call.name < length (texts sema)) × NoteBelow (length (texts sema)) decl × SinkFits sink }
+    ensures { Emitted (texts sema.entry) (qubits_by call qubits (secondary_of decl)) sink out.old result out.new }
 {
     let got = call.args;
     let controls = call.controls;
@@ -128,23 +125,19 @@ fn check_qubit_count(
         span,
         secondary: decl,
     };
-    lines::report(out, sink, tree, index, d)
+    lines::report(out, sink, sema.tree, sema.index, d)
 }
 
 // Are there as many parameters and arguments as there should be? Asked by each caller, before the call is passed on: most fit.
 fn fits_arity(call: Call, params: usize, qubits: usize) -> bool
     ensures { result ≡ fits_arity call params qubits }
 {
-    if call.params == params {
-        return is_arity(call.args, qubits, call.controls);
-    }
-    false
+    call.params == params && is_arity(call.args, qubits, call.controls)
 }
 
 // The counts that are wrong. With a note where the gate is defined in the program.
 fn report_arity(
-    tree: &[u8],
-    index: &Index,
+    sema: SemaContext<'_>,
     out: &mut [u8],
     call: Call,
     params: usize,
@@ -152,43 +145,34 @@ fn report_arity(
     decl: Option<(Note, Span)>,
     sink: Sink,
 ) -> Sink
-    requires { TextsAt tree.now index.now × (call.name < length (texts_of tree.now)) × NoteBelow (length (texts_of tree.now)) decl × SinkFits sink }
-    ensures { Emitted (texts_of tree.now) (arity_by call params qubits (secondary_of decl)) sink out.old result out.new }
+    requires { (call.name < length (texts sema)) × NoteBelow (length (texts sema)) decl × SinkFits sink }
+    ensures { Emitted (texts sema.entry) (arity_by call params qubits (secondary_of decl)) sink out.old result out.new }
 {
-    let s = check_param_count(tree, index, out, call, params, decl, sink);
-    check_qubit_count(tree, index, out, call, qubits, decl, s)
+    let s = check_param_count(sema, out, call, params, decl, sink);
+    check_qubit_count(sema, out, call, qubits, decl, s)
 }
 
 // A gate that the program does not define: a standard gate, or none.
-fn check_standard(tree: &[u8], index: &Index, out: &mut [u8], call: Call, sink: Sink) -> Sink
-    requires { TextsAt tree.now index.now × (call.name < length (texts_of tree.now)) × SinkFits sink }
-    ensures { Emitted (texts_of tree.now) (standard_of (texts_of tree.now) call) sink out.old result out.new }
+fn check_standard(sema: SemaContext<'_>, out: &mut [u8], call: Call, sink: Sink) -> Sink
+    requires { (call.name < length (texts sema)) × SinkFits sink }
+    ensures { Emitted (texts sema.entry) (standard_of (texts sema.entry) call) sink out.old result out.new }
 {
     let name = call.name;
-    let standard = gates::standard_gate_signature(name_of(tree, index, name));
+    let standard = gates::standard_gate_signature(name_of(sema.tree, sema.index, name));
     match standard {
         Some(gate) => {
             if fits_arity(call, gate.params, gate.qubits) {
                 return sink;
             }
-            report_arity(
-                tree,
-                index,
-                out,
-                call,
-                gate.params,
-                gate.qubits,
-                None,
-                sink,
-            )
+            report_arity(sema, out, call, gate.params, gate.qubits, None, sink)
         }
         None => {
             let span = call.span;
             lines::report(
                 out,
                 sink,
-                tree,
-                index,
+                sema.tree,
+                sema.index,
                 lines::error(Message::GateNotDefined(name), span),
             )
         }
@@ -196,21 +180,14 @@ fn check_standard(tree: &[u8], index: &Index, out: &mut [u8], call: Call, sink: 
 }
 
 // A definition of the program goes before a standard gate.
-pub fn check_signature(
-    tree: &[u8],
-    index: &Index,
-    scratch: &[u8],
-    out: &mut [u8],
-    call: Call,
-    sink: Sink,
-) -> Sink
-    requires { TextsAt tree.now index.now × (65536 ≤ length scratch.now) × (call.name < length (texts_of tree.now)) × SinkFits sink }
-    ensures { Emitted (texts_of tree.now) (signature_by (texts_of tree.now) (gates_of scratch.now) call) sink out.old result out.new }
+pub fn check_signature(sema: SemaContext<'_>, out: &mut [u8], call: Call, sink: Sink) -> Sink
+    requires { (call.name < length (texts sema)) × SinkFits sink }
+    ensures { Emitted (texts sema.entry) (signature_by (texts sema.entry) (gates_of sema.entry.scratch.now) call) sink out.old result out.new }
 {
     let name = call.name;
-    let found = tables::gate(scratch, name);
+    let found = tables::gate(sema.scratch, name);
     let Some(sig) = found else {
-        return check_standard(tree, index, out, call, sink);
+        return check_standard(sema, out, call, sink);
     };
     let params = sig.param_count;
     let qubits = sig.qubit_count;
@@ -219,56 +196,34 @@ pub fn check_signature(
         return sink;
     }
     report_arity(
-        tree,
-        index,
+        sema,
         out,
         call,
         params,
         qubits,
-        Secondary::Some(Note::DefinedHere(name), span),
+        Some((Note::DefinedHere(name), span)),
         sink,
     )
 }
 
 // The modifiers at `at`, and the parameters behind them.
-pub fn check_values(
-    tree: &[u8],
-    index: &Index,
-    scratch: &[u8],
-    out: &mut [u8],
-    depth: usize,
-    at: usize,
-    sink: Sink,
-) -> Sink
-    requires { TextsAt tree.now index.now × (65536 ≤ length scratch.now) × (depth ≤ 9) × SinkFits sink × IsOk (vec (modifier (texts_of tree.now)) tree.now at) × IsOk (exprs (held (texts_of tree.now)) tree.now (next_of (vec (modifier (texts_of tree.now)) tree.now at))) }
-    ensures { Emitted (texts_of tree.now) (check_modifiers (scopes_of scratch.now depth) (functions_of scratch.now) (value_or [] (vec (modifier (texts_of tree.now)) tree.now at)) ++ params_say (plain_context (scopes_of scratch.now depth) (functions_of scratch.now)) (value_or no_expr (exprs (held (texts_of tree.now)) tree.now (next_of (vec (modifier (texts_of tree.now)) tree.now at))))) sink out.old result out.new }
+pub fn check_values(sema: SemaContext<'_>, out: &mut [u8], at: usize, sink: Sink) -> Sink
+    requires { SinkFits sink × IsOk (vec (modifier (texts sema)) sema.tree.now at) × IsOk (exprs (held (texts sema)) sema.tree.now (next_of (vec (modifier (texts sema)) sema.tree.now at))) }
+    ensures { Emitted (texts sema.entry) (check_modifiers (scopes sema.entry) (functions sema.entry) (value_or [] (vec (modifier (texts sema.entry)) sema.entry.tree.now at)) ++ params_say (plain_context (scopes sema.entry) (functions sema.entry)) (value_or no_expr (exprs (held (texts sema.entry)) sema.entry.tree.now (next_of (vec (modifier (texts sema.entry)) sema.entry.tree.now at))))) sink out.old result out.new }
 {
-    let a = typing::check_modifiers(tree, index, scratch, out, depth, at, sink);
+    let a = typing::check_modifiers(sema, out, at, sink);
     let k = a.next;
     let checked = a.sink;
-    let b = typing::check_params(tree, index, scratch, out, depth, k, checked);
+    let b = typing::check_params(sema, out, k, checked);
     let said = b.sink;
     said
 }
 
 // The operands at `at`: each by itself, and their widths.
-pub fn check_args(
-    tree: &[u8],
-    index: &Index,
-    scratch: &[u8],
-    out: &mut [u8],
-    depth: usize,
-    keys: usize,
-    marks: &[u16; 256],
-    at: usize,
-    span: Span,
-    sink: Sink,
-) -> Sink
-    requires { Walkable tree.now index.now keys × (65536 ≤ length scratch.now) × (depth ≤ 9) × Placed tree.now marks.now × SinkFits sink × IsOk (vec (operand (texts_of tree.now)) tree.now at) }
-    ensures { Emitted (texts_of tree.now) (use_operands (scopes_of scratch.now depth) (marks_of tree.now (keys_in index.now keys) marks.now) span (value_or [] (vec (operand (texts_of tree.now)) tree.now at)) ++ widths_say span (register_widths (scopes_of scratch.now depth) (value_or [] (vec (operand (texts_of tree.now)) tree.now at)))) sink out.old result out.new }
+pub fn check_args(m: Measured<'_, '_>, out: &mut [u8], at: usize, span: Span, sink: Sink) -> Sink
+    requires { SinkFits sink × IsOk (vec (operand (texts m.sema)) m.sema.tree.now at) }
+    ensures { Emitted (texts m.entry.sema) (use_operands (scopes m.entry.sema) (marks m.entry) span (value_or [] (vec (operand (texts m.entry.sema)) m.entry.sema.tree.now at)) ++ widths_say span (register_widths (scopes m.entry.sema) (value_or [] (vec (operand (texts m.entry.sema)) m.entry.sema.tree.now at)))) sink out.old result out.new }
 {
-    let s = operands::use_operands(
-        tree, index, scratch, out, depth, keys, marks, at, span, sink,
-    );
-    operands::check_broadcasting(tree, index, scratch, out, depth, at, span, s)
+    let s = operands::use_operands(m, out, at, span, sink);
+    operands::check_broadcasting(m.sema, out, at, span, s)
 }

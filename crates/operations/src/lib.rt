@@ -11,6 +11,8 @@ ghost use Rattle.tree.specs.Stmts.{operand, stmt};
 ghost use Rattle.tree.specs.Decode.{texts_of};
 ghost use Rattle.sema.specs.Operands.{use_operands};
 ghost use Rattle.context.specs.Sink.{SinkFits};
+ghost use Rattle.context.specs.Given.{texts, scopes};
+ghost use Rattle.operands.specs.Measured.{marks};
 ghost use Rattle.context.specs.View.{Placed, scopes_of, keys_in, marks_of, span_at};
 ghost use Rattle.sheet.specs.Behind.{Blank};
 ghost use Rattle.sheet.specs.Sheet.{Indexed, KeysAdded};
@@ -22,9 +24,10 @@ use accepted::numbers::span_at;
 use accepted::operands::operand_at;
 use accepted::parts::skip_operands;
 use calls::{call_at, check_args, check_signature, check_values};
-use context::{After, Index, Sink};
+use context::{After, Index, SemaContext, Sink};
 use lines::{Expected, Message};
 use measures::{check_measure, mark_measured};
+use operands::Measured;
 
 // An include says nothing and changes nothing.
 pub fn include(
@@ -46,25 +49,13 @@ pub fn include(
 }
 
 // The operands of a barrier or a delay. The statement's span stands behind them.
-fn use_targets(
-    tree: &[u8],
-    index: &Index,
-    scratch: &[u8],
-    out: &mut [u8],
-    depth: usize,
-    keys: usize,
-    marks: &[u16; 256],
-    at: usize,
-    sink: Sink,
-) -> After
-    requires { Walkable tree.now index.now keys × (65536 ≤ length scratch.now) × (depth ≤ 9) × Placed tree.now marks.now × SinkFits sink × IsOk (vec (operand (texts_of tree.now)) tree.now at) × (next_of (vec (operand (texts_of tree.now)) tree.now at) + 8 ≤ length tree.now) }
-    ensures { SaidOf (texts_of tree.now) (use_operands (scopes_of scratch.now depth) (marks_of tree.now (keys_in index.now keys) marks.now) (span_at tree.now result.next)) (vec (operand (texts_of tree.now)) tree.now at) sink out.old result out.new }
+fn use_targets(m: Measured<'_, '_>, out: &mut [u8], at: usize, sink: Sink) -> After
+    requires { SinkFits sink × IsOk (vec (operand (texts m.sema)) m.sema.tree.now at) × (next_of (vec (operand (texts m.sema)) m.sema.tree.now at) + 8 ≤ length m.sema.tree.now) }
+    ensures { SaidOf (texts m.entry.sema) (use_operands (scopes m.entry.sema) (marks m.entry) (span_at m.entry.sema.tree.now result.next)) (vec (operand (texts m.entry.sema)) m.entry.sema.tree.now at) sink out.old result out.new }
 {
-    let next = skip_operands(tree, at);
-    let span = span_at(tree, next);
-    let s = operands::use_operands(
-        tree, index, scratch, out, depth, keys, marks, at, span, sink,
-    );
+    let next = skip_operands(m.sema.tree, at);
+    let span = span_at(m.sema.tree, next);
+    let s = operands::use_operands(m, out, at, span, sink);
     After { next, sink: s }
 }
 
@@ -83,17 +74,14 @@ pub fn barrier(
     requires { Walkable tree.now index.now keys × Ready tree.now scratch.now (state_of at sink marks.now) × IsOk (stmt (texts_of tree.now) left tree.now at) × (left ≤ 8) × (get_or tree.now at 0 ≡ 10) }
     ensures { StmtWalked tree.now index.now keys left (state_of at sink marks.now) scratch.now out.old (state_of result.next result.sink marks.now) scratch.now out.new }
 {
-    let a = use_targets(
+    let sema = SemaContext {
         tree,
         index,
         scratch,
-        out,
-        9 - left,
-        keys,
-        marks,
-        at + 1,
-        sink,
-    );
+        depth: 9 - left,
+    };
+    let m = Measured { sema, keys, marks };
+    let a = use_targets(m, out, at + 1, sink);
     let said = a.sink;
     After {
         next: a.next + 8,
@@ -116,28 +104,16 @@ pub fn delay(
     requires { Walkable tree.now index.now keys × Ready tree.now scratch.now (state_of at sink marks.now) × IsOk (stmt (texts_of tree.now) left tree.now at) × (left ≤ 8) × (get_or tree.now at 0 ≡ 11) }
     ensures { StmtWalked tree.now index.now keys left (state_of at sink marks.now) scratch.now out.old (state_of result.next result.sink marks.now) scratch.now out.new }
 {
-    let a = typing::require_numeric(
+    let sema = SemaContext {
         tree,
         index,
         scratch,
-        out,
-        9 - left,
-        at + 1,
-        Message::DelayNumeric,
-        sink,
-    );
+        depth: 9 - left,
+    };
+    let m = Measured { sema, keys, marks };
+    let a = typing::require_numeric(sema, out, at + 1, Message::DelayNumeric, sink);
     let checked = a.sink;
-    let b = use_targets(
-        tree,
-        index,
-        scratch,
-        out,
-        9 - left,
-        keys,
-        marks,
-        a.next,
-        checked,
-    );
+    let b = use_targets(m, out, a.next, checked);
     let said = b.sink;
     After {
         next: b.next + 8,
@@ -161,21 +137,17 @@ pub fn reset(
     ensures walked { StmtWalked tree.now index.now keys left (state_of at sink marks.old) scratch.now out.old (state_of result.next result.sink marks.new) scratch.now out.new }
     ensures behind { (n : ℕ) → keys ≤ n → Blank n marks.old → Blank n marks.new }
 {
-    let r = operand_at(tree, at + 1);
-    let op = r.value;
-    let said = operands::check_operand(
+    let sema = SemaContext {
         tree,
         index,
         scratch,
-        out,
-        9 - left,
-        op,
-        Expected::Qubit,
-        sink,
-    );
-    sheet::clear(marks, index, keys, op);
+        depth: 9 - left,
+    };
+    let op = operand_at(tree, at + 1);
+    let said = operands::check_operand(sema, out, op.value, Expected::Qubit, sink);
+    sheet::clear(marks, index, keys, op.value);
     After {
-        next: r.next + 8,
+        next: op.next + 8,
         sink: said,
     }
 }
@@ -193,8 +165,7 @@ pub fn add_keys(
     ensures added { KeysAdded index.old index.new result (stmt_keys (stmt (texts_of tree.now) left tree.now at) (scopes_of scratch.now (9 - left)) (keys_in index.old keys)) }
     ensures index { length index.new ≡ length index.old }
 {
-    let o = operand_at(tree, at + 1);
-    let op = o.operand;
+    let op = operand_at(tree, at + 1).value;
     let size = tables::size_of(scratch, 9 - left, op.name);
     sheet::new_keys::add_measured(index, keys, op, size)
 }
@@ -216,23 +187,21 @@ pub fn measure(
     ensures walked { StmtWalked tree.now index.now keys left (state_of at sink marks.old) scratch.now out.old (state_of result.next result.sink marks.new) scratch.now out.new }
     ensures behind { (n : ℕ) → keys ≤ n → Blank n marks.old → Blank n marks.new }
 {
-    let q = operand_at(tree, at + 1);
-    let qubit = q.value;
-    let k = q.next;
-    let a = check_measure(
+    let sema = SemaContext {
         tree,
         index,
         scratch,
-        out,
-        9 - left,
+        depth: 9 - left,
+    };
+    let qubit = operand_at(tree, at + 1);
+    let m = Measured {
+        sema,
         keys,
-        marks,
-        qubit,
-        k,
-        sink,
-    );
+        marks: &*marks,
+    };
+    let a = check_measure(m, out, qubit.value, qubit.next, sink);
     let said = a.sink;
-    mark_measured(index, scratch, 9 - left, keys, marks, qubit, at);
+    mark_measured(index, scratch, 9 - left, keys, marks, qubit.value, at);
     After {
         next: a.next + 8,
         sink: said,
@@ -254,23 +223,17 @@ pub fn gate_call(
     requires { Walkable tree.now index.now keys × Ready tree.now scratch.now (state_of at sink marks.now) × IsOk (stmt (texts_of tree.now) left tree.now at) × (left ≤ 8) × (get_or tree.now at 0 ≡ 5) }
     ensures { StmtWalked tree.now index.now keys left (state_of at sink marks.now) scratch.now out.old (state_of result.next result.sink marks.now) scratch.now out.new }
 {
-    let call = call_at(tree, at, left);
-    let named = check_signature(tree, index, scratch, out, call, sink);
-    let checked = check_values(tree, index, scratch, out, 9 - left, at + 3, named);
-    let args_at = call.args_at;
-    let span = call.span;
-    let said = check_args(
+    let sema = SemaContext {
         tree,
         index,
         scratch,
-        out,
-        9 - left,
-        keys,
-        marks,
-        args_at,
-        span,
-        checked,
-    );
+        depth: 9 - left,
+    };
+    let m = Measured { sema, keys, marks };
+    let call = call_at(tree, at, left);
+    let named = check_signature(sema, out, call, sink);
+    let checked = check_values(sema, out, at + 3, named);
+    let said = check_args(m, out, call.args_at, call.span, checked);
     After {
         next: call.end + 8,
         sink: said,

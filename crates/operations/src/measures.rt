@@ -11,6 +11,8 @@ ghost use Rattle.sema.specs.Operands.{is_some, unless};
 ghost use Rattle.sema.specs.Stmts.{measure_target, measure_says};
 ghost use Rattle.context.specs.Sink.{SinkFits};
 ghost use Rattle.context.specs.Values.{number_of, operand_of};
+ghost use Rattle.context.specs.Given.{texts, scopes};
+ghost use Rattle.operands.specs.Measured.{marks};
 ghost use Rattle.context.specs.View.{TextsAt, PlaceOk, Placed, scopes_of, keys_in, marks_of, measure_span, span_at, context_of};
 ghost use Rattle.sheet.specs.Sheet.{Indexed, Covers};
 ghost use Rattle.sheet.specs.Behind.{Blank};
@@ -20,8 +22,9 @@ ghost use Rattle.promises.specs.Walks.{Walkable};
 
 use accepted::numbers::span_at;
 use accepted::operands::operand_at;
-use context::{After, GateOperand, Index, Sink};
+use context::{After, GateOperand, Index, SemaContext, Sink};
 use lines::{Expected, Message};
+use operands::Measured;
 use span::Span;
 
 // Sets the marks of the measure statement at `at`.
@@ -46,115 +49,83 @@ pub fn mark_measured(
 
 // Was it measured before?
 fn warn_measured(
-    tree: &[u8],
-    index: &Index,
+    m: Measured<'_, '_>,
     out: &mut [u8],
-    keys: usize,
-    marks: &[u16; 256],
     qubit: GateOperand,
     span: Span,
     sink: Sink,
 ) -> Sink
-    requires { Walkable tree.now index.now keys × (qubit.name < length (texts_of tree.now)) × SinkFits sink }
-    ensures { Emitted (texts_of tree.now) (unless (not (is_some (lookup_measured (marks_of tree.now (keys_in index.now keys) marks.now) qubit.name (number_of qubit.index)))) (warning (already_measured (operand_of qubit)) span)) sink out.old result out.new }
+    requires { (qubit.name < length (texts m.sema)) × SinkFits sink }
+    ensures { Emitted (texts m.entry.sema) (unless (not (is_some (lookup_measured (marks m.entry) qubit.name (number_of qubit.index)))) (warning (already_measured (operand_of qubit)) span)) sink out.old result out.new }
 {
-    let name = qubit.name;
-    let i = qubit.index;
-    if sheet::lookup(marks, index, keys, name, i) == 0 {
+    if sheet::lookup(m.marks, m.sema.index, m.keys, qubit.name, qubit.index) == 0 {
         return sink;
     }
     lines::report(
         out,
         sink,
-        tree,
-        index,
+        m.sema.tree,
+        m.sema.index,
         lines::warning(Message::AlreadyMeasured(qubit), span),
     )
 }
 
 // A target: a bit, or as many bits as there are qubits.
 fn check_target(
-    tree: &[u8],
-    index: &Index,
-    scratch: &[u8],
+    sema: SemaContext<'_>,
     out: &mut [u8],
-    depth: usize,
     qubit: GateOperand,
     target: GateOperand,
     span: Span,
     sink: Sink,
 ) -> Sink
-    requires { TextsAt tree.now index.now × (65536 ≤ length scratch.now) × (depth ≤ 9) × (qubit.name < length (texts_of tree.now)) × (target.name < length (texts_of tree.now)) × SinkFits sink }
-    ensures { Emitted (texts_of tree.now) (measure_target (scopes_of scratch.now depth) (operand_of qubit) span (some (operand_of target))) sink out.old result out.new }
+    requires { (qubit.name < length (texts sema)) × (target.name < length (texts sema)) × SinkFits sink }
+    ensures { Emitted (texts sema.entry) (measure_target (scopes sema.entry) (operand_of qubit) span (some (operand_of target))) sink out.old result out.new }
 {
-    let s = operands::check_operand(
-        tree,
-        index,
-        scratch,
-        out,
-        depth,
-        target,
-        Expected::Bit,
-        sink,
-    );
-    operands::check_measure_widths(tree, index, scratch, out, depth, qubit, target, span, s)
+    let s = operands::check_operand(sema, out, target, Expected::Bit, sink);
+    operands::check_measure_widths(sema, out, qubit, target, span, s)
 }
 
 // The Option of a target at `at`. The statement's span stands behind it.
 fn check_target_at(
-    tree: &[u8],
-    index: &Index,
-    scratch: &[u8],
+    sema: SemaContext<'_>,
     out: &mut [u8],
-    depth: usize,
     qubit: GateOperand,
     at: usize,
     sink: Sink,
 ) -> After
-    requires { TextsAt tree.now index.now × (65536 ≤ length scratch.now) × (depth ≤ 9) × (qubit.name < length (texts_of tree.now)) × SinkFits sink × IsOk (option (operand (texts_of tree.now)) tree.now at) × (next_of (option (operand (texts_of tree.now)) tree.now at) + 8 ≤ length tree.now) }
-    ensures { SaidOf (texts_of tree.now) (measure_target (scopes_of scratch.now depth) (operand_of qubit) (span_at tree.now result.next)) (option (operand (texts_of tree.now)) tree.now at) sink out.old result out.new }
+    requires { (qubit.name < length (texts sema)) × SinkFits sink × IsOk (option (operand (texts sema)) sema.tree.now at) × (next_of (option (operand (texts sema)) sema.tree.now at) + 8 ≤ length sema.tree.now) }
+    ensures { SaidOf (texts sema.entry) (measure_target (scopes sema.entry) (operand_of qubit) (span_at sema.entry.tree.now result.next)) (option (operand (texts sema.entry)) sema.entry.tree.now at) sink out.old result out.new }
 {
-    if tree[at] == 0 {
+    if sema.tree[at] == 0 {
         return After { next: at + 1, sink };
     }
-    let t = operand_at(tree, at + 1);
+    let t = operand_at(sema.tree, at + 1);
     let target = t.value;
     let next = t.next;
-    let span = span_at(tree, next);
-    let s = check_target(tree, index, scratch, out, depth, qubit, target, span, sink);
+    let span = span_at(sema.tree, next);
+    let s = check_target(sema, out, qubit, target, span, sink);
     After { next, sink: s }
 }
 
 // What is said of a measurement of the qubit, with the Option of its target at `at`.
 pub fn check_measure(
-    tree: &[u8],
-    index: &Index,
-    scratch: &[u8],
+    m: Measured<'_, '_>,
     out: &mut [u8],
-    depth: usize,
-    keys: usize,
-    marks: &[u16; 256],
     qubit: GateOperand,
     at: usize,
     sink: Sink,
 ) -> After
-    requires { Walkable tree.now index.now keys × (65536 ≤ length scratch.now) × (depth ≤ 9) × (qubit.name < length (texts_of tree.now)) × SinkFits sink × IsOk (option (operand (texts_of tree.now)) tree.now at) × (next_of (option (operand (texts_of tree.now)) tree.now at) + 8 ≤ length tree.now) }
-    ensures { SaidOf (texts_of tree.now) (λ target. measure_says (context_of tree.now (keys_in index.now keys) scratch.now depth marks.now) (operand_of qubit) target (span_at tree.now result.next)) (option (operand (texts_of tree.now)) tree.now at) sink out.old result out.new }
+    requires { (qubit.name < length (texts m.sema)) × SinkFits sink × IsOk (option (operand (texts m.sema)) m.sema.tree.now at) × (next_of (option (operand (texts m.sema)) m.sema.tree.now at) + 8 ≤ length m.sema.tree.now) }
+    ensures { SaidOf (texts m.entry.sema) (λ target. measure_says (context_of m.entry.sema.tree.now (keys_in m.entry.sema.index.now m.entry.keys) m.entry.sema.scratch.now m.entry.sema.depth m.entry.marks.now) (operand_of qubit) target (span_at m.entry.sema.tree.now result.next)) (option (operand (texts m.entry.sema)) m.entry.sema.tree.now at) sink out.old result out.new }
 {
-    let s = operands::check_operand(
-        tree,
-        index,
-        scratch,
-        out,
-        depth,
-        qubit,
-        Expected::Qubit,
-        sink,
-    );
-    let a = check_target_at(tree, index, scratch, out, depth, qubit, at, s);
-    let next = a.next;
+    let s = operands::check_operand(m.sema, out, qubit, Expected::Qubit, sink);
+    let a = check_target_at(m.sema, out, qubit, at, s);
     let checked = a.sink;
-    let span = span_at(tree, next);
-    let said = warn_measured(tree, index, out, keys, marks, qubit, span, checked);
-    After { next, sink: said }
+    let span = span_at(m.sema.tree, a.next);
+    let said = warn_measured(m, out, qubit, span, checked);
+    After {
+        next: a.next,
+        sink: said,
+    }
 }

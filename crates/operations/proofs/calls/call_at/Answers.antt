@@ -32,4 +32,4 @@ span_at-span-requires c =
 pub returns : goal.returns
 returns c =
     call-read _ _ _ _ c.requires.0 c.requires.1 c.modifier_control_count-c.ensures c.skip_exprs-args_at.ensures c.skip_operands-end.ensures
-    c.u16_at-name.ensures.0 c.wide-params.ensures.0 c.wide-args.ensures.0 c.unwrap_or-controls.ensures c.span_at-span.ensures
+    c.u16_at-name.ensures.0 c.from-params.ensures c.from-args.ensures c.unwrap_or-controls.ensures c.span_at-span.ensures
