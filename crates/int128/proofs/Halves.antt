@@ -58,3 +58,5 @@ pub high_times : (ah al bh bl : ℕ) → (ah ≡ 0 → ⊥) → (bh ≡ 0 → �
 high_times ah al bh bl h g =
     over _ 18446744073709551616 0 (omega arith)
     (mul-le-mul {n₁ = 18446744073709551616} {m₁ = 18446744073709551616} {n₂ = both ah al} {m₂ = both bh bl} (omega arith) (omega arith))
+
+pub ruleset timing = (trimmed, words_times)

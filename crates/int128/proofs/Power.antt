@@ -11,7 +11,7 @@ use Rattle.std.specs.Prelude.{Some, None}
 use Rattle.std.proofs.lemmas.Bool.Decides.{nat_tests}
 use Rattle.int128.specs.declared.Words.{Words}
 use Rattle.int128.specs.Whole.{magnitude, magnitude_of, signed, checked, powered, word_of}
-use Rattle.int128.proofs.Halves.{fits, over, none_is}
+use Rattle.int128.proofs.Halves.{fits, over, some_is, none_is}
 use Rattle.int128.proofs.Signs.{signed_times}
 
 -- squares
@@ -103,3 +103,5 @@ module _ (a z : ℤ) (n : ℕ) (e : Some n ≡ word_of z) where
   pub power_is : n < 4294967296 → powered a z ≡ checked (pow a n)
   unfolding powered
   power_is h = rw (word_is z n e, lt-ltb n 4294967296 h)
+
+pub ruleset powering = (pow-none, pow-once, square_over, half_over, even, odd, some_is)

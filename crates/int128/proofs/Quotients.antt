@@ -45,3 +45,7 @@ pub by_zero : (a : ℤ) (t : Bool) (n : ℕ) → n ≡ 0 → None ≡ divided a 
 unfolding divided
 by_zero a false n e = rw e
 by_zero a true n e = rw e
+
+pub ruleset quotients = (by_zero, signed_quotient)
+
+pub ruleset twice = (div-twice, mod-twice)

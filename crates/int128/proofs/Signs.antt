@@ -10,8 +10,9 @@ use borrow.Author.Tests.{lt-ltb, le-ltb, ltb-true, ltb-false, eqb-true, eqb-fals
 use Rattle.std.specs.Prelude.{Some, None}
 use Rattle.std.specs.Bool.{then_some}
 use Rattle.std.proofs.lemmas.Bool.Decides.{nat_tests}
-use Rattle.int128.specs.Whole.{both, magnitude_of, signed, int128, limit, checked}
-use Rattle.int128.proofs.Halves.{none_is}
+use Rattle.int128.specs.declared.Words.{Words}
+use Rattle.int128.specs.Whole.{both, magnitude, magnitude_of, signed, int128, limit, checked}
+use Rattle.int128.proofs.Halves.{none_is, some_is}
 
 -- the limit by words: these go by the laws of the product, as 2^127 is too long a number for omega
 words-low : (h w hi lo : ℕ) → hi < h → lo < w → hi * w + lo < h * w
@@ -190,3 +191,12 @@ signed_times true true zero zero = refl
 signed_times true true zero (suc n) = ap (λ (x : ℕ). neg_ℤ (pos x)) (zero-mul (suc n)) ∙ ap pos (sym (zero-mul (suc n)))
 signed_times true true (suc m) zero = ap (λ (x : ℕ). neg_ℤ (pos x)) (mul-zero (suc m)) ∙ ap pos (sym (mul-zero (suc m)))
 signed_times true true (suc m) (suc n) = refl
+
+pub some_checked : (s : Bool) (n : ℕ) (w : Words) → Some w ≡ magnitude_of n → checked (signed s n) ≡ checked (signed s (magnitude w))
+some_checked s n w e = rw (some_is w n e)
+
+pub ruleset ranging = (none_checked, some_checked)
+
+pub ruleset multiplying = (signed_times, ranging)
+
+pub ruleset adding = (alike, same_sign, ranging)

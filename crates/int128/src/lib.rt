@@ -50,6 +50,7 @@ fn sub_words(a: Words, b: Words) -> Words
     }
 }
 
+#[tactic(auto, using(crate::proofs::Halves::timing))]
 fn mul_word(a: Words, b: u64) -> Option<Words>
     ensures { result ≡ magnitude_of (magnitude a * b) }
 {
@@ -105,6 +106,7 @@ fn halved(d: Division, b: Words) -> Division
 }
 
 // By doubling the divisor: at most 128 calls deep.
+#[tactic(auto, using(crate::proofs::Quotients::twice))]
 fn divide(a: Words, b: Words) -> Division
     requires { 0 < magnitude b }
     ensures { (magnitude result.quotient ≡ magnitude a / magnitude b) × (magnitude result.remainder ≡ magnitude a % magnitude b) }
@@ -139,6 +141,7 @@ fn div_words(a: Words, b: Words) -> Words
 }
 
 // By squaring: the exponent halves with each call, so at most 32 of them.
+#[tactic(auto, using(crate::proofs::Power::powering))]
 fn pow_words(base: Words, exponent: u32) -> Option<Words>
     ensures { result ≡ magnitude_of (magnitude base ^ exponent) }
 {
@@ -195,6 +198,7 @@ impl Int128 {
         fit(!self.neg, self.words)
     }
 
+    #[tactic(auto, using(crate::proofs::Signs::adding))]
     pub fn checked_add(self, other: Self) -> Option<Self>
         ensures { result ≡ checked (value_of self +ℤ value_of other) }
     {
@@ -204,6 +208,7 @@ impl Int128 {
         fit(self.neg, add_words(self.words, other.words)?)
     }
 
+    #[tactic(auto, using(crate::proofs::Signs::negated))]
     pub fn checked_sub(self, other: Self) -> Option<Self>
         ensures { result ≡ checked (value_of self -ℤ value_of other) }
     {
@@ -213,6 +218,7 @@ impl Int128 {
         })
     }
 
+    #[tactic(auto, using(crate::proofs::Signs::multiplying))]
     pub fn checked_mul(self, other: Self) -> Option<Self>
         ensures { result ≡ checked (value_of self *ℤ value_of other) }
     {
@@ -220,6 +226,7 @@ impl Int128 {
         fit(self.neg != other.neg, product)
     }
 
+    #[tactic(auto, using(crate::proofs::Quotients::quotients))]
     pub fn checked_div(self, other: Self) -> Option<Self>
         ensures { result ≡ divided (value_of self) (value_of other) }
     {
