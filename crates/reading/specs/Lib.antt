@@ -1,3 +1,4 @@
 pub mod Answers
 pub mod Section
 pub mod Spans
+pub mod Sources

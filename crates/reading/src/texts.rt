@@ -8,7 +8,7 @@ ghost use Rattle.tree.specs.Exprs.{text_number};
 ghost use Rattle.reading.specs.Answers.{answer, forget};
 ghost use Rattle.reading.specs.Section.{texts_from, past_texts, text_count, of_kind, kind_read, checksum, slot_of, Gathered};
 ghost use Rattle.tree.specs.Ans.{ok};
-ghost use Rattle.tree.specs.Decode.{texts_of};
+ghost use Rattle.reading.specs.Sources.{in_file};
 
 use crate::answers::{Read, refuse};
 use crate::numbers::{read_byte, read_u16};
@@ -169,7 +169,7 @@ pub fn read_texts(s: &[u8], first: usize, n: usize, kinds: &mut [Spelling; TEXTS
 
 // A text number: below the number of texts.
 pub fn read_path(source: &Source, at: usize) -> Read<u16>
-    ensures { answer result ≡ text_number (texts_of source.now.bytes.now) is_path source.now.bytes.now at }
+    ensures { answer result ≡ in_file (λ t. text_number t is_path) source.now at }
 {
     let a = read_u16(source.bytes, at);
     let Read::At(n, _) = a else {
@@ -183,7 +183,7 @@ pub fn read_path(source: &Source, at: usize) -> Read<u16>
 
 // A text number whose text is of the kind.
 fn read_spelled(source: &Source, at: usize, kind: Spelling) -> Read<u16>
-    ensures { answer result ≡ text_number (texts_of source.now.bytes.now) (of_kind kind) source.now.bytes.now at }
+    ensures { answer result ≡ in_file (λ t. text_number t (of_kind kind)) source.now at }
 {
     let a = read_path(source, at);
     let Read::At(n, _) = a else {
@@ -196,13 +196,13 @@ fn read_spelled(source: &Source, at: usize, kind: Spelling) -> Read<u16>
 }
 
 pub fn read_name(source: &Source, at: usize) -> Read<u16>
-    ensures { answer result ≡ text_number (texts_of source.now.bytes.now) is_name source.now.bytes.now at }
+    ensures { answer result ≡ in_file (λ t. text_number t is_name) source.now at }
 {
     read_spelled(source, at, Spelling::Name)
 }
 
 pub fn read_float(source: &Source, at: usize) -> Read<u16>
-    ensures { answer result ≡ text_number (texts_of source.now.bytes.now) is_float source.now.bytes.now at }
+    ensures { answer result ≡ in_file (λ t. text_number t is_float) source.now at }
 {
     read_spelled(source, at, Spelling::Float)
 }
