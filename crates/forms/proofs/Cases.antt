@@ -11,19 +11,7 @@ use Rattle.tree.specs.Read.{byte, within, span, case_byte, one_of}
 use Rattle.tree.specs.Stmts.{qualifier, inv}
 use Rattle.tree.specs.Exprs.{binary, compare, expr_cases, expr}
 use Rattle.reading.specs.Answers.{forget}
-
--- a case byte that was read is below the number of cases
-pub case-below : (s : List ℕ) (at cases b k : ℕ) → case_byte cases s at ≡ ok b k → b < cases
-unfolding case_byte byte within here check done refuse ◌>>=◌ ◌>>◌ bind
-case-below s at cases b k e = go (ltb at (length s)) e
-  where
-    test : (n : ℕ) → (cases ≤ n) ⊎ (n < cases) → bind (check (ltb n cases) 4 at s (at + 1)) (λ u next. ok n next) ≡ ok b k → b < cases
-    test n (inl h) e = let z : refused 4 at ≡ ok b k = rw (le-ltb n cases h) at e in absurd cc
-    test n (inr h) e = let z : ok n (at + 1) ≡ ok b k = rw (lt-ltb n cases h) at e in let y : n ≡ b = cc in rw y at h
-
-    go : (t : Bool) → bind (within t (length s) (ok (get_or s at 0) (at + 1))) (λ n next. bind (check (ltb n cases) 4 at s next) (λ u after. ok n after)) ≡ ok b k → b < cases
-    go true e = test (get_or s at 0) (le-or-lt _ _) e
-    go false e = absurd cc
+use Rattle.reading.proofs.Cases.{case-below}
 
 -- a qualifier is read as its case byte
 pub qualifier_is : (s : List ℕ) (at : ℕ) → forget (case_byte 3 s at) ≡ forget (qualifier s at)
@@ -73,8 +61,8 @@ module _ (t : List Text) (left : ℕ) (s : List ℕ) (at : ℕ) where
       where
         go : Dec (b ≡ 8) → r ≡ forget (expr t left s at)
         go (yes z) = f (o.0 z) ∙ ap forget (sym (expr-arm deep ∙ rw z refl))
-        go (no z) = let nine : b ≡ 9 = omega (arith, case-below s at 10 b k e) in g (o.1 z) ∙ ap forget (sym (expr-arm deep ∙ rw nine refl))
+        go (no z) = let nine : b ≡ 9 = omega (arith, case-below 10 s at b k e) in g (o.1 z) ∙ ap forget (sym (expr-arm deep ∙ rw nine refl))
 
 pub ruleset exprs = (expr-refused, expr-over, expr-arm)
 
-pub ruleset modifiers = (case-below, inv_is)
+pub ruleset modifiers = inv_is

@@ -80,7 +80,7 @@ fn read_pow(source: &Source, at: usize) -> Read<()>
     pass_span(source.bytes, k)
 }
 
-#[tactic(auto, unfolding(reading::specs::Answers::forget, tree::specs::Ans::bind, tree::specs::Ans::here, tree::specs::Ans::done, tree::specs::Stmts::modifier), using(reading::proofs::Steps::steps, crate::proofs::Cases::modifiers))]
+#[tactic(auto, unfolding(reading::specs::Answers::forget, tree::specs::Ans::bind, tree::specs::Ans::here, tree::specs::Ans::done, tree::specs::Stmts::modifier), using(reading::proofs::Steps::steps, reading::proofs::Cases::case_bytes, crate::proofs::Cases::modifiers))]
 fn read_modifier(source: &Source, at: usize) -> Read<()>
     ensures { answer result ≡ forget (in_file modifier source.now at) }
 {

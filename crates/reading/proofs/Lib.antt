@@ -6,3 +6,4 @@ pub mod Sums
 pub mod Named
 pub mod Repeated
 pub mod Gathered
+pub mod Cases

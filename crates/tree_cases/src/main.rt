@@ -2,17 +2,17 @@
 #![tactic(auto)]
 
 use cases::Case;
-use reader::Validated;
+use refusal::Refused;
 use std::io;
 use std::io::{Read, Write};
 
 // More cases than the input has.
 const CASES: usize = 10000;
 
-fn print<W: Write>(out: &mut W, answer: Validated) -> io::Result<()> {
+fn print<W: Write>(out: &mut W, answer: Result<(), Refused>) -> io::Result<()> {
     match answer {
-        Validated::Accepted => writeln!(out, "accepted"),
-        Validated::Refused(number, place) => writeln!(out, "refused {number} {place}"),
+        Ok(()) => writeln!(out, "accepted"),
+        Err(refused) => writeln!(out, "{refused}"),
     }
 }
 
