@@ -1,15 +1,20 @@
 // Expressions. A case's function starts behind the case byte; `left` is how many levels are left below.
+#![tactic(auto, unfolding(reading::specs::Answers::forget, tree::specs::Ans::bind, tree::specs::Ans::here, tree::specs::Ans::done, tree::specs::Read::one_of, tree::specs::Exprs::int_lit, tree::specs::Exprs::float_lit, tree::specs::Exprs::bool_lit, tree::specs::Exprs::ident, tree::specs::Exprs::index, tree::specs::Exprs::call, tree::specs::Exprs::neg, tree::specs::Exprs::binary, tree::specs::Exprs::compare, tree::specs::Exprs::const_kind, tree::specs::Exprs::bin_op, tree::specs::Exprs::compare_op, tree::specs::Read::bool), using(reading::proofs::Steps::steps))]
+
 ghost use Rattle.std.specs.Prelude.{◌≡◌};
 ghost use Rattle.tree.specs.Limits.{expr_levels};
 ghost use Rattle.tree.specs.Read.{option};
 ghost use Rattle.tree.specs.Exprs.{int_lit, float_lit, bool_lit, ident, index, call, const, neg, binary, compare, expr, exprs};
-ghost use Rattle.reading.specs.Answers.{forget};
-ghost use Rattle.reading.specs.Section.{kinds_of};
+ghost use Rattle.reading.specs.Answers.{answer, forget};
+ghost use Rattle.reading.specs.Sources.{in_file};
 ghost use Rattle.tree.specs.Decode.{texts_of};
 
-use reading::answers::{Read, ReadByte, ReadNumber, ReadText};
+use reading::answers::{Read, refuse};
+use reading::containers::read_option;
 use reading::numbers::{FLAGS, pass_span, read_case, read_count, read_u64};
+use reading::source::Source;
 use reading::texts::{read_float, read_name};
+use refusal::Refusal;
 
 const EXPR_LEVELS: usize = 32;
 
@@ -21,99 +26,94 @@ const BIN_OPS: u8 = 5;
 
 const COMPARE_OPS: u8 = 6;
 
-fn read_int_lit(s: &[u8], at: usize) -> Read
-    ensures { result ≡ forget (int_lit (texts_of s.now) s.now at) }
+fn read_int_lit(s: &[u8], at: usize) -> Read<()>
+    ensures { answer result ≡ forget (int_lit (texts_of s.now) s.now at) }
 {
     let a = read_u64(s, at);
-    let ReadNumber::At(_, k) = a else {
-        return a.into_read();
+    let Read::At(_, k) = a else {
+        return a.into_place();
     };
     pass_span(s, k)
 }
 
-fn read_float_lit(s: &[u8], kinds: &[u8], at: usize) -> Read
-    requires { kinds.now ≡ kinds_of s.now }
-    ensures { result ≡ forget (float_lit (texts_of s.now) s.now at) }
+fn read_float_lit(source: &Source, at: usize) -> Read<()>
+    ensures { answer result ≡ forget (in_file float_lit source.now at) }
 {
-    let a = read_float(s, kinds, at);
-    let ReadText::At(_, k) = a else {
-        return a.into_read();
+    let a = read_float(source, at);
+    let Read::At(_, k) = a else {
+        return a.into_place();
     };
-    pass_span(s, k)
+    pass_span(source.bytes, k)
 }
 
-fn read_bool_lit(s: &[u8], at: usize) -> Read
-    ensures { result ≡ forget (bool_lit (texts_of s.now) s.now at) }
+fn read_bool_lit(s: &[u8], at: usize) -> Read<()>
+    ensures { answer result ≡ forget (bool_lit (texts_of s.now) s.now at) }
 {
     let a = read_case(s, at, FLAGS);
-    let ReadByte::At(_, k) = a else {
-        return a.into_read();
+    let Read::At(_, k) = a else {
+        return a.into_place();
     };
     pass_span(s, k)
 }
 
-fn read_ident(s: &[u8], kinds: &[u8], at: usize) -> Read
-    requires { kinds.now ≡ kinds_of s.now }
-    ensures { result ≡ forget (ident (texts_of s.now) s.now at) }
+fn read_ident(source: &Source, at: usize) -> Read<()>
+    ensures { answer result ≡ forget (in_file ident source.now at) }
 {
-    let a = read_name(s, kinds, at);
-    let ReadText::At(_, k) = a else {
-        return a.into_read();
+    let a = read_name(source, at);
+    let Read::At(_, k) = a else {
+        return a.into_place();
     };
-    pass_span(s, k)
+    pass_span(source.bytes, k)
 }
 
-fn read_index(s: &[u8], kinds: &[u8], at: usize) -> Read
-    requires { kinds.now ≡ kinds_of s.now }
-    ensures { result ≡ forget (index (texts_of s.now) s.now at) }
+fn read_index(source: &Source, at: usize) -> Read<()>
+    ensures { answer result ≡ forget (in_file index source.now at) }
 {
-    let a = read_name(s, kinds, at);
-    let ReadText::At(_, k) = a else {
-        return a.into_read();
+    let a = read_name(source, at);
+    let Read::At(_, k) = a else {
+        return a.into_place();
     };
-    let b = read_u64(s, k);
-    let ReadNumber::At(_, l) = b else {
-        return b.into_read();
+    let b = read_u64(source.bytes, k);
+    let Read::At(_, l) = b else {
+        return b.into_place();
     };
-    pass_span(s, l)
+    pass_span(source.bytes, l)
 }
 
-fn read_const(s: &[u8], at: usize) -> Read
-    ensures { result ≡ forget (const (texts_of s.now) s.now at) }
+fn read_const(s: &[u8], at: usize) -> Read<()>
+    ensures { answer result ≡ forget (const (texts_of s.now) s.now at) }
 {
     let a = read_case(s, at, CONST_KINDS);
-    let ReadByte::At(_, k) = a else {
-        return a.into_read();
+    let Read::At(_, k) = a else {
+        return a.into_place();
     };
     pass_span(s, k)
 }
 
-#[cycle(read_args_read_call_read_expr_read_neg_read_pair)]
-fn read_call(s: &[u8], kinds: &[u8], at: usize, left: usize) -> Read
-    requires { kinds.now ≡ kinds_of s.now }
-    ensures { result ≡ forget (call (texts_of s.now) (expr (texts_of s.now) left) s.now at) }
+#[cycle(exprs)]
+fn read_call(source: &Source, at: usize, left: usize) -> Read<()>
+    ensures { answer result ≡ forget (in_file (λ t. call t (expr t left)) source.now at) }
 {
-    let a = read_name(s, kinds, at);
-    let ReadText::At(_, k) = a else {
-        return a.into_read();
+    let a = read_name(source, at);
+    let Read::At(_, k) = a else {
+        return a.into_place();
     };
-    let b = read_args(s, kinds, k, left);
-    let Read::At(l) = b else {
+    let b = read_args(source, k, left);
+    let Read::At(_, l) = b else {
         return b;
     };
-    pass_span(s, l)
+    pass_span(source.bytes, l)
 }
 
-#[cycle(read_args_read_call_read_expr_read_neg_read_pair)]
-fn read_neg(s: &[u8], kinds: &[u8], at: usize, left: usize) -> Read
-    requires { kinds.now ≡ kinds_of s.now }
-    ensures { result ≡ forget (neg (texts_of s.now) (expr (texts_of s.now) left) s.now at) }
+#[cycle(exprs)]
+fn read_neg(source: &Source, at: usize, left: usize) -> Read<()>
+    ensures { answer result ≡ forget (in_file (λ t. neg t (expr t left)) source.now at) }
 {
-    let a = read_expr(s, kinds, at, left);
-    let Read::At(k) = a else {
+    let a = read_expr(source, at, left);
+    let Read::At(_, k) = a else {
         return a;
     };
-    pass_span(s, k)
+    pass_span(source.bytes, k)
 }
 
 // How many operators there are behind this case byte, of an operation or a comparison.
@@ -124,102 +124,89 @@ fn operators(case: u8) -> u8
 }
 
 // An operator, one of so many, and its two operands.
-#[cycle(read_args_read_call_read_expr_read_neg_read_pair)]
-fn read_pair(s: &[u8], kinds: &[u8], at: usize, left: usize, ops: u8) -> Read
-    requires { kinds.now ≡ kinds_of s.now }
-    ensures { (ops ≡ 5 → result ≡ forget (binary (texts_of s.now) (expr (texts_of s.now) left) s.now at)) × (ops ≡ 6 → result ≡ forget (compare (texts_of s.now) (expr (texts_of s.now) left) s.now at)) }
+#[cycle(exprs)]
+fn read_pair(source: &Source, at: usize, left: usize, ops: u8) -> Read<()>
+    ensures binary { ops ≡ 5 → answer result ≡ forget (in_file (λ t. binary t (expr t left)) source.now at) }
+    ensures compare { ops ≡ 6 → answer result ≡ forget (in_file (λ t. compare t (expr t left)) source.now at) }
 {
-    let a = read_case(s, at, ops);
-    let ReadByte::At(_, k) = a else {
-        return a.into_read();
+    let a = read_case(source.bytes, at, ops);
+    let Read::At(_, k) = a else {
+        return a.into_place();
     };
-    let b = read_expr(s, kinds, k, left);
-    let Read::At(l) = b else {
+    let b = read_expr(source, k, left);
+    let Read::At(_, l) = b else {
         return b;
     };
-    let c = read_expr(s, kinds, l, left);
-    let Read::At(m) = c else {
+    let c = read_expr(source, l, left);
+    let Read::At(_, m) = c else {
         return c;
     };
-    pass_span(s, m)
+    pass_span(source.bytes, m)
 }
 
-// Expressions behind their count.
-#[cycle(read_args_read_call_read_expr_read_neg_read_pair)]
-fn read_args(s: &[u8], kinds: &[u8], at: usize, left: usize) -> Read
-    requires { kinds.now ≡ kinds_of s.now }
-    ensures { result ≡ forget (exprs (expr (texts_of s.now) left) s.now at) }
+// Expressions behind their count. A loop of its own, and no `read_vec`: a closure in a cycle of calls gets no proof.
+#[cycle(exprs)]
+#[tactic(auto, unfolding(reading::specs::Answers::forget), using(reading::proofs::Held::vecs))]
+fn read_args(source: &Source, at: usize, left: usize) -> Read<()>
+    ensures { answer result ≡ forget (in_file (λ t. exprs (expr t left)) source.now at) }
 {
-    let a = read_count(s, at);
-    let ReadByte::At(n, first) = a else {
-        return a.into_read();
+    let a = read_count(source.bytes, at);
+    let Read::At(n, first) = a else {
+        return a.into_place();
     };
     let mut k = first;
-    let mut i = n;
-    while 0 < i {
-        let b = read_expr(s, kinds, k, left);
-        let Read::At(next) = b else {
+    for _ in 0..n {
+        let b = read_expr(source, k, left);
+        let Read::At(_, next) = b else {
             return b;
         };
         k = next;
-        i -= 1;
     }
-    Read::At(k)
+    Read::At((), k)
 }
 
 // An expression with so many levels left.
-#[cycle(read_args_read_call_read_expr_read_neg_read_pair)]
-fn read_expr(s: &[u8], kinds: &[u8], at: usize, left: usize) -> Read
-    requires { kinds.now ≡ kinds_of s.now }
-    ensures { result ≡ forget (expr (texts_of s.now) left s.now at) }
+#[cycle(exprs)]
+#[tactic(auto, unfolding(reading::specs::Answers::forget, tree::specs::Exprs::expr_cases), using(reading::proofs::Steps::steps, crate::proofs::Cases::exprs))]
+fn read_expr(source: &Source, at: usize, left: usize) -> Read<()>
+    ensures { answer result ≡ forget (in_file (λ t. expr t left) source.now at) }
 {
-    let s = &s[..]; // pointer and length are loaded one by one, and not waited for as a pair
-    let kinds = &kinds[..];
+    let s = source.bytes;
     let a = read_case(s, at, EXPR_CASES);
-    let ReadByte::At(b, k) = a else {
-        return a.into_read();
+    let Read::At(b, k) = a else {
+        return a.into_place();
     };
     if left == 0 {
-        return Read::Refused(6, at);
+        return refuse(Refusal::TooDeep, at);
     }
     match b {
         0 => read_int_lit(s, k),
-        1 => read_float_lit(s, kinds, k),
+        1 => read_float_lit(source, k),
         2 => read_bool_lit(s, k),
-        3 => read_ident(s, kinds, k),
-        4 => read_index(s, kinds, k),
-        5 => read_call(s, kinds, k, left - 1),
+        3 => read_ident(source, k),
+        4 => read_index(source, k),
+        5 => read_call(source, k, left - 1),
         6 => read_const(s, k),
-        7 => read_neg(s, kinds, k, left - 1),
-        _ => read_pair(s, kinds, k, left - 1, operators(b)),
+        7 => read_neg(source, k, left - 1),
+        _ => read_pair(source, k, left - 1, operators(b)),
     }
 }
 
 // An expression that a statement or a modifier holds.
-pub fn read_held(s: &[u8], kinds: &[u8], at: usize) -> Read
-    requires { kinds.now ≡ kinds_of s.now }
-    ensures { result ≡ forget (expr (texts_of s.now) expr_levels s.now at) }
+pub fn read_held(source: &Source, at: usize) -> Read<()>
+    ensures { answer result ≡ forget (in_file (λ t. expr t expr_levels) source.now at) }
 {
-    read_expr(s, kinds, at, EXPR_LEVELS)
+    read_expr(source, at, EXPR_LEVELS)
 }
 
-pub(crate) fn read_held_args(s: &[u8], kinds: &[u8], at: usize) -> Read
-    requires { kinds.now ≡ kinds_of s.now }
-    ensures { result ≡ forget (exprs (expr (texts_of s.now) expr_levels) s.now at) }
+pub(crate) fn read_held_args(source: &Source, at: usize) -> Read<()>
+    ensures { answer result ≡ forget (in_file (λ t. exprs (expr t expr_levels)) source.now at) }
 {
-    read_args(s, kinds, at, EXPR_LEVELS)
+    read_args(source, at, EXPR_LEVELS)
 }
 
-pub(crate) fn read_optional_held(s: &[u8], kinds: &[u8], at: usize) -> Read
-    requires { kinds.now ≡ kinds_of s.now }
-    ensures { result ≡ forget (option (expr (texts_of s.now) expr_levels) s.now at) }
+pub(crate) fn read_optional_held(source: &Source, at: usize) -> Read<()>
+    ensures { answer result ≡ forget (in_file (λ t. option (expr t expr_levels)) source.now at) }
 {
-    let a = read_case(s, at, FLAGS);
-    let ReadByte::At(b, k) = a else {
-        return a.into_read();
-    };
-    if b == 0 {
-        return Read::At(k);
-    }
-    read_held(s, kinds, k)
+    read_option(source.bytes, at, |k| read_held(source, k))
 }

@@ -1,17 +1,18 @@
 // Operands, modifiers, ranges and parameters.
+#![tactic(auto, unfolding(reading::specs::Answers::forget, tree::specs::Ans::bind, tree::specs::Ans::here, tree::specs::Ans::done, tree::specs::Read::one_of, tree::specs::Stmts::operand, tree::specs::Stmts::ctrl, tree::specs::Stmts::neg_ctrl, tree::specs::Stmts::inv, tree::specs::Stmts::pow, tree::specs::Stmts::for_range, tree::specs::Stmts::param, tree::specs::Stmts::classical_type), using(reading::proofs::Steps::steps))]
+
 ghost use Rattle.std.specs.Prelude.{◌≡◌};
 ghost use Rattle.tree.specs.Read.{case_byte, option, vec};
 ghost use Rattle.tree.specs.Exprs.{name};
 ghost use Rattle.tree.specs.Stmts.{operand, ctrl, neg_ctrl, pow, modifier, for_range, param, qualifier};
-ghost use Rattle.reading.specs.Answers.{forget, gave_byte};
-ghost use Rattle.reading.specs.Section.{kinds_of};
-ghost use Rattle.tree.specs.Decode.{texts_of};
+ghost use Rattle.reading.specs.Answers.{answer, forget};
+ghost use Rattle.reading.specs.Sources.{in_file};
 
 use crate::exprs::{read_held, read_optional_held};
-use reading::answers::{Read, ReadByte, ReadText};
-use reading::numbers::{
-    FLAGS, pass_span, read_case, read_count, read_optional_slice, read_optional_u64,
-};
+use reading::answers::Read;
+use reading::containers::{read_option, read_vec};
+use reading::numbers::{pass_span, read_case, read_optional_slice, read_optional_u64};
+use reading::source::Source;
 use reading::texts::read_name;
 
 const MODIFIER_CASES: u8 = 4;
@@ -20,206 +21,126 @@ const TYPES: u8 = 5;
 
 const QUALIFIERS: u8 = 3;
 
-pub(crate) fn read_operand(s: &[u8], kinds: &[u8], at: usize) -> Read
-    requires { kinds.now ≡ kinds_of s.now }
-    ensures { result ≡ forget (operand (texts_of s.now) s.now at) }
+pub(crate) fn read_operand(source: &Source, at: usize) -> Read<()>
+    ensures { answer result ≡ forget (in_file operand source.now at) }
 {
-    let a = read_name(s, kinds, at);
-    let ReadText::At(_, k) = a else {
-        return a.into_read();
+    let a = read_name(source, at);
+    let Read::At(_, k) = a else {
+        return a.into_place();
     };
-    let b = read_optional_u64(s, k);
-    let Read::At(l) = b else {
+    let b = read_optional_u64(source.bytes, k);
+    let Read::At(_, l) = b else {
         return b;
     };
-    let c = read_optional_slice(s, l);
-    let Read::At(m) = c else {
+    let c = read_optional_slice(source.bytes, l);
+    let Read::At(_, m) = c else {
         return c;
     };
-    pass_span(s, m)
+    pass_span(source.bytes, m)
 }
 
-pub(crate) fn read_optional_operand(s: &[u8], kinds: &[u8], at: usize) -> Read
-    requires { kinds.now ≡ kinds_of s.now }
-    ensures { result ≡ forget (option (operand (texts_of s.now)) s.now at) }
+pub(crate) fn read_optional_operand(source: &Source, at: usize) -> Read<()>
+    ensures { answer result ≡ forget (in_file (λ t. option (operand t)) source.now at) }
 {
-    let a = read_case(s, at, FLAGS);
-    let ReadByte::At(b, k) = a else {
-        return a.into_read();
-    };
-    if b == 0 {
-        return Read::At(k);
-    }
-    read_operand(s, kinds, k)
+    read_option(source.bytes, at, |k| read_operand(source, k))
 }
 
 // The case byte of a type.
-pub fn read_type(s: &[u8], at: usize) -> ReadByte
-    ensures { result ≡ gave_byte (case_byte 5 s.now at) }
+pub fn read_type(s: &[u8], at: usize) -> Read<u8>
+    ensures { answer result ≡ case_byte 5 s.now at }
 {
     read_case(s, at, TYPES)
 }
 
-pub(crate) fn read_optional_qualifier(s: &[u8], at: usize) -> Read
-    ensures { result ≡ forget (option qualifier s.now at) }
+pub(crate) fn read_optional_qualifier(s: &[u8], at: usize) -> Read<()>
+    ensures { answer result ≡ forget (option qualifier s.now at) }
 {
-    let a = read_case(s, at, FLAGS);
-    let ReadByte::At(b, k) = a else {
-        return a.into_read();
-    };
-    if b == 0 {
-        return Read::At(k);
-    }
-    read_case(s, k, QUALIFIERS).into_read()
+    read_option(s, at, |k| read_case(s, k, QUALIFIERS).into_place())
 }
 
 // A modifier with an optional count, `ctrl` or `negctrl`, behind its case byte.
-fn read_ctrl(s: &[u8], kinds: &[u8], at: usize) -> Read
-    requires { kinds.now ≡ kinds_of s.now }
-    ensures { (result ≡ forget (ctrl (texts_of s.now) s.now at)) × (result ≡ forget (neg_ctrl (texts_of s.now) s.now at)) }
+fn read_ctrl(source: &Source, at: usize) -> Read<()>
+    ensures ctrl { answer result ≡ forget (in_file ctrl source.now at) }
+    ensures neg_ctrl { answer result ≡ forget (in_file neg_ctrl source.now at) }
 {
-    let a = read_optional_held(s, kinds, at);
-    let Read::At(k) = a else {
+    let a = read_optional_held(source, at);
+    let Read::At(_, k) = a else {
         return a;
     };
-    pass_span(s, k)
+    pass_span(source.bytes, k)
 }
 
-fn read_pow(s: &[u8], kinds: &[u8], at: usize) -> Read
-    requires { kinds.now ≡ kinds_of s.now }
-    ensures { result ≡ forget (pow (texts_of s.now) s.now at) }
+fn read_pow(source: &Source, at: usize) -> Read<()>
+    ensures { answer result ≡ forget (in_file pow source.now at) }
 {
-    let a = read_held(s, kinds, at);
-    let Read::At(k) = a else {
+    let a = read_held(source, at);
+    let Read::At(_, k) = a else {
         return a;
     };
-    pass_span(s, k)
+    pass_span(source.bytes, k)
 }
 
-fn read_modifier(s: &[u8], kinds: &[u8], at: usize) -> Read
-    requires { kinds.now ≡ kinds_of s.now }
-    ensures { result ≡ forget (modifier (texts_of s.now) s.now at) }
+#[tactic(auto, unfolding(reading::specs::Answers::forget, tree::specs::Ans::bind, tree::specs::Ans::here, tree::specs::Ans::done, tree::specs::Stmts::modifier), using(reading::proofs::Steps::steps, reading::proofs::Cases::case_bytes, crate::proofs::Cases::modifiers))]
+fn read_modifier(source: &Source, at: usize) -> Read<()>
+    ensures { answer result ≡ forget (in_file modifier source.now at) }
 {
-    let a = read_case(s, at, MODIFIER_CASES);
-    let ReadByte::At(b, k) = a else {
-        return a.into_read();
+    let a = read_case(source.bytes, at, MODIFIER_CASES);
+    let Read::At(b, k) = a else {
+        return a.into_place();
     };
     match b {
-        0 => read_ctrl(s, kinds, k),
-        1 => read_ctrl(s, kinds, k),
-        2 => pass_span(s, k),
-        _ => read_pow(s, kinds, k),
+        0 | 1 => read_ctrl(source, k),
+        2 => pass_span(source.bytes, k),
+        _ => read_pow(source, k),
     }
 }
 
-pub fn read_range(s: &[u8], kinds: &[u8], at: usize) -> Read
-    requires { kinds.now ≡ kinds_of s.now }
-    ensures { result ≡ forget (for_range (texts_of s.now) s.now at) }
+pub fn read_range(source: &Source, at: usize) -> Read<()>
+    ensures { answer result ≡ forget (in_file for_range source.now at) }
 {
-    let a = read_held(s, kinds, at);
-    let Read::At(k) = a else {
+    let a = read_held(source, at);
+    let Read::At(_, k) = a else {
         return a;
     };
-    let b = read_held(s, kinds, k);
-    let Read::At(l) = b else {
+    let b = read_held(source, k);
+    let Read::At(_, l) = b else {
         return b;
     };
-    read_optional_held(s, kinds, l)
+    read_optional_held(source, l)
 }
 
 // A function's parameter: its type and its name.
-fn read_param(s: &[u8], kinds: &[u8], at: usize) -> Read
-    requires { kinds.now ≡ kinds_of s.now }
-    ensures { result ≡ forget (param (texts_of s.now) s.now at) }
+fn read_param(source: &Source, at: usize) -> Read<()>
+    ensures { answer result ≡ forget (in_file param source.now at) }
 {
-    let a = read_type(s, at);
-    let ReadByte::At(_, k) = a else {
-        return a.into_read();
+    let a = read_type(source.bytes, at);
+    let Read::At(_, k) = a else {
+        return a.into_place();
     };
-    read_name(s, kinds, k).into_read()
+    read_name(source, k).into_place()
 }
 
 // Names behind their count; so the other Vecs.
-pub fn read_names(s: &[u8], kinds: &[u8], at: usize) -> Read
-    requires { kinds.now ≡ kinds_of s.now }
-    ensures { result ≡ forget (vec (name (texts_of s.now)) s.now at) }
+pub fn read_names(source: &Source, at: usize) -> Read<()>
+    ensures { answer result ≡ forget (in_file (λ t. vec (name t)) source.now at) }
 {
-    let a = read_count(s, at);
-    let ReadByte::At(n, first) = a else {
-        return a.into_read();
-    };
-    let mut k = first;
-    let mut i = n;
-    while 0 < i {
-        let b = read_name(s, kinds, k);
-        let ReadText::At(_, next) = b else {
-            return b.into_read();
-        };
-        k = next;
-        i -= 1;
-    }
-    Read::At(k)
+    read_vec(source.bytes, at, |k| read_name(source, k).into_place())
 }
 
-pub(crate) fn read_params(s: &[u8], kinds: &[u8], at: usize) -> Read
-    requires { kinds.now ≡ kinds_of s.now }
-    ensures { result ≡ forget (vec (param (texts_of s.now)) s.now at) }
+pub(crate) fn read_params(source: &Source, at: usize) -> Read<()>
+    ensures { answer result ≡ forget (in_file (λ t. vec (param t)) source.now at) }
 {
-    let a = read_count(s, at);
-    let ReadByte::At(n, first) = a else {
-        return a.into_read();
-    };
-    let mut k = first;
-    let mut i = n;
-    while 0 < i {
-        let b = read_param(s, kinds, k);
-        let Read::At(next) = b else {
-            return b;
-        };
-        k = next;
-        i -= 1;
-    }
-    Read::At(k)
+    read_vec(source.bytes, at, |k| read_param(source, k))
 }
 
-pub(crate) fn read_modifiers(s: &[u8], kinds: &[u8], at: usize) -> Read
-    requires { kinds.now ≡ kinds_of s.now }
-    ensures { result ≡ forget (vec (modifier (texts_of s.now)) s.now at) }
+pub(crate) fn read_modifiers(source: &Source, at: usize) -> Read<()>
+    ensures { answer result ≡ forget (in_file (λ t. vec (modifier t)) source.now at) }
 {
-    let a = read_count(s, at);
-    let ReadByte::At(n, first) = a else {
-        return a.into_read();
-    };
-    let mut k = first;
-    let mut i = n;
-    while 0 < i {
-        let b = read_modifier(s, kinds, k);
-        let Read::At(next) = b else {
-            return b;
-        };
-        k = next;
-        i -= 1;
-    }
-    Read::At(k)
+    read_vec(source.bytes, at, |k| read_modifier(source, k))
 }
 
-pub(crate) fn read_operands(s: &[u8], kinds: &[u8], at: usize) -> Read
-    requires { kinds.now ≡ kinds_of s.now }
-    ensures { result ≡ forget (vec (operand (texts_of s.now)) s.now at) }
+pub(crate) fn read_operands(source: &Source, at: usize) -> Read<()>
+    ensures { answer result ≡ forget (in_file (λ t. vec (operand t)) source.now at) }
 {
-    let a = read_count(s, at);
-    let ReadByte::At(n, first) = a else {
-        return a.into_read();
-    };
-    let mut k = first;
-    let mut i = n;
-    while 0 < i {
-        let b = read_operand(s, kinds, k);
-        let Read::At(next) = b else {
-            return b;
-        };
-        k = next;
-        i -= 1;
-    }
-    Read::At(k)
+    read_vec(source.bytes, at, |k| read_operand(source, k))
 }

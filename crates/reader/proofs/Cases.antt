@@ -1,48 +1,53 @@
--- The cases of statements, and bodies: a law for each way out of the code. Assumes nothing.
-use Prim.Native.Nat.{ℕ, ◌+◌, ◌-◌}
-use mathlib.Core.Path.{◌≡◌, refl}
-use mathlib.Core.List.{List}
-use native.Mathlib.Omega.{arith}
-use lib.ListN.{get_or}
-use Rattle.ast.specs.Tree.{Text, Stmt, no_stmt, more_stmt}
-use Rattle.tree.specs.Ans.{Reader, bind, ◌>>=◌, refuse}
+-- Statements by their levels, and bodies. Assumes nothing.
+use Rattle.std.proofs.Common.{◌≡◌, refl, ℕ, zero, suc, ◌-◌, List, get_or, sub-one, arith}
+use Rattle.std.proofs.Math.Option.{Option}
+use Rattle.ast.specs.Tree.{Text, Stmt, Stmts, no_stmt, more_stmt}
+use Rattle.tree.specs.Ans.{Ans, ok, refused, Reader, bind, ◌>>=◌, done, here, refuse}
 use Rattle.tree.specs.Read.{number, case_byte, option, repeat}
-use Rattle.tree.specs.Stmts.{body, else_body, while_loop, stmt_cases, stmt}
-use Rattle.tree.specs.Levels.{stmt_levels}
-use Rattle.reading.specs.Answers.{forget, gave_byte, gave_number, number_answer}
-use Rattle.reading.specs.declared.answers.Read.{Read}
-use Rattle.reading.specs.declared.answers.ReadByte.{ReadByte}
-use Rattle.reading.specs.declared.answers.ReadNumber.{ReadNumber}
-use Rattle.reading.proofs.Taken.{taken_ok, taken-left, taken_refused, number_kind}
-use Rattle.reading.proofs.Runs.{skip, runs_last, then, end, by}
-use Rattle.reading.proofs.Values.{bind-refused, case-below, case-next}
-use Rattle.reading.proofs.Levels.{level-arm}
-use Rattle.forms.proofs.Cases.{up, last}
+use Rattle.tree.specs.Stmts.{body, to_else, else_body, stmt_cases, stmt}
+use Rattle.reading.specs.Answers.{forget}
 
--- statements
-module _ (t : List Text) (left : ℕ) (s : List ℕ) (at : ℕ) (a : ReadByte) (read : a ≡ gave_byte (case_byte 15 s at)) (b k : ℕ) (g : a ≡ ReadByte.At b k) (deep : left ≡ 0 → ⊥) (r : Read) where
-  pub stmt-arm : (c : ℕ) → b ≡ c → r ≡ forget (get_or (stmt_cases t (stmt t (left - 1)) at) c (refuse 4 at) s (at + 1)) → r ≡ forget (stmt t left s at)
-  stmt-arm c e h = level-arm (stmt_levels t) left s at a read b k g deep r c e (rw (case-next s at 15 a read b k g) h)
+module _ (t : List Text) (left : ℕ) (s : List ℕ) (at : ℕ) where
+  pub stmt-refused : (n p : ℕ) → case_byte 15 s at ≡ refused n p → stmt t left s at ≡ refused n p
+  unfolding stmt here ◌>>=◌ bind
+  stmt-refused n p e = go left
+    where
+      go : (left : ℕ) → stmt t left s at ≡ refused n p
+      go zero = rw e
+      go (suc left) = rw e
 
-  pub case-while : (b ≡ 0 → ⊥) → (b ≡ 1 → ⊥) → (b ≡ 2 → ⊥) → (b ≡ 3 → ⊥) → (b ≡ 4 → ⊥) → (b ≡ 5 → ⊥) → (b ≡ 6 → ⊥) → (b ≡ 7 → ⊥) → (b ≡ 8 → ⊥) → (b ≡ 9 → ⊥) → (b ≡ 10 → ⊥) → (b ≡ 11 → ⊥) → (b ≡ 12 → ⊥) → (b ≡ 13 → ⊥) → r ≡ forget (while_loop t (stmt t (left - 1)) at s (at + 1)) → r ≡ forget (stmt t left s at)
-  unfolding stmt_cases
-  case-while n0 n1 n2 n3 n4 n5 n6 n7 n8 n9 n10 n11 n12 n13 = stmt-arm 14 (last b 14 (case-below s at 15 a read b k g) (up b 13 n13 (up b 12 n12 (up b 11 n11 (up b 10 n10 (up b 9 n9 (up b 8 n8 (up b 7 n7 (up b 6 n6 (up b 5 n5 (up b 4 n4 (up b 3 n3 (up b 2 n2 (up b 1 n1 (up b 0 n0 (omega arith))))))))))))))))
+  module _ (b k : ℕ) (e : case_byte 15 s at ≡ ok b k) where
+    pub stmt-over : left ≡ 0 → stmt t left s at ≡ refused 6 at
+    unfolding stmt here refuse ◌>>=◌ bind
+    stmt-over z = rw (z, e)
 
-pub ruleset statements = (stmt-arm, case-while)
+    pub stmt-arm : (left ≡ 0 → ⊥) → stmt t left s at ≡ get_or (stmt_cases t (stmt t (left - 1)) at) b (refuse 4 at) s k
+    unfolding stmt here ◌>>=◌ bind
+    stmt-arm deep = go left deep
+      where
+        go : (left : ℕ) → (left ≡ 0 → ⊥) → stmt t left s at ≡ get_or (stmt_cases t (stmt t (left - 1)) at) b (refuse 4 at) s k
+        go zero d = absurd (d refl)
+        go (suc left) d = rw (e, sub-one)
+
+pub ruleset stmts = (stmt-refused, stmt-over, stmt-arm)
 
 -- bodies
-module _ (inner : Reader Stmt) (s : List ℕ) (at : ℕ) (r : Read) where
-  pub else_is : r ≡ forget (option (body inner) s at) → r ≡ forget (else_body inner s at)
-  unfolding else_body
-  else_is e = by (then _ _ _ _ s at refl (λ b k. end _ s k)) r (runs_last (skip (option (body inner))) s at r e)
+module _ (inner : Reader Stmt) (s : List ℕ) (at : ℕ) where
+  pub body_refused : (m q : ℕ) → number 2 s at ≡ refused m q → forget (body inner s at) ≡ refused m q
+  unfolding body ◌>>=◌ bind forget
+  body_refused m q e = rw e
 
-module _ (inner : Reader Stmt) (s : List ℕ) (at : ℕ) (a : ReadNumber) (read : a ≡ gave_number (number 2 s at)) where
-  pub body_refused : (m p : ℕ) → a ≡ ReadNumber.Refused m p → (r : Read) → r ≡ forget (number_answer a) → r ≡ forget (body inner s at)
-  unfolding body ◌>>=◌
-  body_refused m p g r h = bind-refused _ _ r m p (taken-left number_kind a (number 2 s at) read r h) (taken_refused number_kind a m p g r h)
-
-  pub body-start : (n k : ℕ) → a ≡ ReadNumber.At n k → forget (body inner s at) ≡ forget (repeat no_stmt more_stmt inner n s k)
+  pub body-start : (n k : ℕ) → number 2 s at ≡ ok n k → forget (body inner s at) ≡ forget (repeat no_stmt more_stmt inner (n - 0) s k)
   unfolding body ◌>>=◌ bind
-  body-start n k g = rw (taken_ok number_kind a (number 2 s at) read n k g)
+  body-start n k e = let z : n - 0 ≡ n = omega arith in rw (e, z)
 
-pub ruleset bodies = (body_refused, body-start)
+  -- the body of an `else`, where there is one
+  pub else_is : forget (else_body inner s at) ≡ forget (option (body inner) s at)
+  unfolding else_body done ◌>>=◌ bind forget
+  else_is = go (option (body inner) s at)
+    where
+      go : (x : Ans (Option Stmts)) → forget (bind x (λ b next. done (to_else b) s next)) ≡ forget x
+      go (ok b next) = refl
+      go (refused n p) = refl
+
+pub ruleset bodies = (body_refused, body-start, else_is)

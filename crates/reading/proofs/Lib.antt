@@ -1,10 +1,9 @@
-pub mod Taken
-pub mod Leaves
-pub mod Runs
-pub mod Values
-pub mod Levels
+pub mod Steps
+pub mod Bytes
+pub mod Held
 pub mod Spelled
-pub mod Section
-pub mod Repeated
+pub mod Sums
 pub mod Named
+pub mod Repeated
 pub mod Gathered
+pub mod Cases

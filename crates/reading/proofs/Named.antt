@@ -1,137 +1,148 @@
--- Text numbers: a law for each way out of the code. Assumes nothing.
-use Prim.Native.Nat.{ℕ, ◌<◌, ◌≤◌}
-use mathlib.Core.Path.{◌≡◌, refl, sym, ap, ◌∙◌}
-use mathlib.Core.List.{List, [], ◌∷◌}
-use mathlib.Core.Bool.{Bool, true, false, ◌&&◌, and-false, and-eq-true_iff, false≢true}
-use mathlib.Core.Logic.{◌⊎◌, inl, inr}
-use native.Mathlib.Omega.{arith}
-use lib.ListN.{length, get_or, length-map, get_or-map}
-use lib.Dec.{eqb, ltb, leb}
-use borrow.Author.Tests.{lt-ltb, le-ltb, eq-eqb, ne_eqb, lt-leb}
-use Rattle.tree.specs.AnsLaws.{never_ok}
+-- The bytes of texts, and text numbers. Assumes nothing.
+use Rattle.std.proofs.Common.{◌≡◌, refl, sym, ◌∙◌, ℕ, suc, ◌+◌, ◌<◌, ◌≤◌, ◌⊎◌, inl, inr, List, [], ◌∷◌, length, get_or, Bool, true, false, not, ◌||◌, cond, ltb, arith, Some, None}
+use Rattle.std.specs.List.{position, prefix_len}
+use borrow.Author.Tests.{lt-ltb, le-ltb}
+use lib.ListN.{length-map}
+use Rattle.std.proofs.lemmas.List.{get_or-map}
+use Rattle.text.proofs.Order.{le-or-lt}
 use Rattle.ast.specs.Tree.{Text}
 use Rattle.tree.specs.Ans.{Ans, ok, refused, bind, ◌>>=◌, ◌>>◌, done, here, refuse, check}
 use Rattle.tree.specs.Read.{number}
-use Rattle.tree.specs.Texts.{letter, digit, is_name, is_float, is_path}
+use Rattle.tree.specs.Texts.{between, allowed, is_path, is_name, is_float, letter, digit, every}
 use Rattle.tree.specs.Exprs.{text_number}
-use Rattle.reading.specs.Answers.{gave_number, gave_text, number_answer}
-use Rattle.reading.specs.Section.{kind_by, kind_of, of_kind, kinds_of}
 use Rattle.tree.specs.Decode.{texts_of}
-use Rattle.reading.specs.declared.answers.ReadNumber.{ReadNumber}
-use Rattle.reading.specs.declared.answers.ReadText.{ReadText}
-use Rattle.reading.proofs.Taken.{back-gave, taken_ok, taken_not, number_kind, text_kind}
-use Rattle.text.proofs.Order.{le-or-lt}
-use Rattle.reading.proofs.Values.{bind-into}
-use Rattle.reading.proofs.Spelled.{letter-below, name-kind}
+use denote.Enum.Bare.{sameb}
+use mathlib.Core.Bool.{and-eq-true_iff}
+use Rattle.std.proofs.lemmas.Bool.Decides.{nat_tests}
+use Rattle.reading.specs.contracts.spelling.Spelling.{the_type}
+use Rattle.reading.specs.declared.spelling.Spelling.{Spelling}
+use Rattle.reading.specs.declared.spelling.Spelling.TheVariants.{Neither, Name, Float}
+use Rattle.reading.specs.Section.{kind_by, kind_of, of_kind, kinds_of}
+use Rattle.reading.proofs.Spelled.{ltb_suc, name_some}
 
--- the tests on a number
-abbrev judged : List Text → (Text → Bool) → ℕ → List ℕ → ℕ → ℕ → Ans ℕ
-judged t spelled at s n next = ◌>>◌ (check (ltb n (length t)) 4 at) (◌>>◌ (check (spelled (get_or t n [])) 4 at) (done n)) s next
+abbrev well : ℕ → Ans (Unit {0})
+well at = ok tt at
 
-module _ (t : List Text) (s : List ℕ) (at : ℕ) where
-  -- spelled the same way for every text, read the same way
-  spelled-alike : (p q : Text → Bool) → ((x : Text) → p x ≡ q x) → text_number t p s at ≡ text_number t q s at
-  unfolding text_number here ◌>>=◌ bind
-  spelled-alike p q h = go (number 2 s at)
+-- the first byte that is not allowed decides
+abbrev end : Text → ℕ
+end x = prefix_len (λ c. not (not (between 33 126 c))) x
+
+allowed_by : (x : Text) (place : ℕ) (s : List ℕ) (at : ℕ) → allowed x place s at ≡ cond (ltb (end x) (length x)) (refused 4 (place + end x)) (well at)
+unfolding allowed check done refuse ◌>>◌ bind
+allowed_by [] place s at = refl
+allowed_by (c ∷ cs) place s at = go (between 33 126 c) (allowed_by cs (place + 1) s at)
+  where
+    go : (b : Bool) → allowed cs (place + 1) s at ≡ cond (ltb (end cs) (length cs)) (refused 4 (place + 1 + end cs)) (well at)
+        → bind (check b 4 place s at) (λ u k. allowed cs (place + 1) s k) ≡ cond (ltb (cond (not (not b)) (1 + end cs) 0) (suc (length cs))) (refused 4 (place + cond (not (not b)) (1 + end cs) 0)) (well at)
+    go false h = let z : ltb 0 (suc (length cs)) ≡ true = lt-ltb 0 _ (omega arith) in let y : place + 0 ≡ place = omega arith in rw (z, y)
+    go true h = let z : 1 + end cs ≡ suc (end cs) = omega arith in let y : place + 1 + end cs ≡ place + suc (end cs) = omega arith in h ∙ rw (z, ltb_suc (end cs) (length cs), y) refl
+
+module _ (x : Text) (place : ℕ) (s : List ℕ) (at : ℕ) where
+  pub allowed_none : None ≡ position (λ c. not (between 33 126 c)) x → allowed x place s at ≡ ok tt at
+  allowed_none e = allowed_by x place s at ∙ go (ltb (end x) (length x)) e
     where
-      go : (x : Ans ℕ) → bind x (λ n next. judged t p at s n next) ≡ bind x (λ n next. judged t q at s n next)
-      go (ok n next) = rw (h (get_or t n []))
-      go (refused m place) = refl
+      go : (b : Bool) → None ≡ cond b (Some (end x)) None → cond b (refused 4 (place + end x)) (well at) ≡ well at
+      go true e = absurd cc
+      go false e = refl
 
-  -- first any text, then the spelling
-  spelled-after : (spelled : Text → Bool) → text_number t spelled s at ≡ bind (text_number t is_path s at) (λ n next. ◌>>◌ (check (spelled (get_or t n [])) 4 at) (done n) s next)
-  unfolding text_number is_path here check done ◌>>=◌ ◌>>◌ bind
-  spelled-after spelled = bind-into (number 2 s at) _ _ _ (λ n k. bind-into (check (ltb n (length t)) 4 at s k) _ _ _ (λ u k. refl))
+  pub allowed_some : (i : ℕ) → Some i ≡ position (λ c. not (between 33 126 c)) x → allowed x place s at ≡ refused 4 (place + i)
+  allowed_some i e = allowed_by x place s at ∙ go (ltb (end x) (length x)) e
+    where
+      go : (b : Bool) → Some i ≡ cond b (Some (end x)) None → cond b (refused 4 (place + end x)) (well at) ≡ refused 4 (place + i)
+      go true e = let z : i ≡ end x = cc in rw z
+      go false e = absurd cc
+
+-- the bytes of a name are allowed
+later_allowed : (c : ℕ) → (letter c || digit c) ≡ true → between 33 126 c ≡ true
+unfolding letter digit
+later_allowed c h = grind (arith, nat_tests)
+
+letters_allowed : (x : Text) (place : ℕ) (s : List ℕ) (at : ℕ) → every (λ c. letter c || digit c) x ≡ true → allowed x place s at ≡ well at
+unfolding every allowed check done ◌>>◌ bind
+letters_allowed [] place s at h = refl
+letters_allowed (c ∷ cs) place s at h = let f = (and-eq-true_iff (letter c || digit c) _).0 h in rw (later_allowed c f.0) (letters_allowed cs (place + 1) s at f.1)
+
+name_allowed : (x : Text) (place : ℕ) (s : List ℕ) (at : ℕ) → is_name x ≡ true → allowed x place s at ≡ well at
+unfolding is_name
+name_allowed [] place s at h = absurd cc
+name_allowed (c ∷ cs) place s at h = letters_allowed (c ∷ cs) place s at ((and-eq-true_iff (letter c) _).0 (sym (name_some (c ∷ cs) (λ z. omega arith)) ∙ h)).1
 
 -- the number of texts, as the code knows it
-module _ (s kinds : List ℕ) (known : kinds ≡ kinds_of s) where
-  count-known : length kinds ≡ length (texts_of s)
-  unfolding kinds_of
-  count-known = ap length known ∙ length-map (texts_of s) kind_of
+pub length-kinds_of : (s : List ℕ) → length (kinds_of s) ≡ length (texts_of s)
+unfolding kinds_of
+length-kinds_of s = length-map (texts_of s) kind_of
 
-  -- any text
-  module _ (at : ℕ) (y : ReadNumber) (u : y ≡ gave_number (number 2 s at)) (a : ReadText) (read : a ≡ gave_text (number_answer y)) where
-    as_text : a ≡ gave_text (number 2 s at)
-    as_text = read ∙ ap gave_text (ap number_answer u ∙ back-gave number_kind (number 2 s at))
+-- first any text, then the spelling
+spelled-after : (t : List Text) (s : List ℕ) (at : ℕ) (spelled : Text → Bool) → text_number t spelled s at ≡ bind (text_number t is_path s at) (λ n next. ◌>>◌ (check (spelled (get_or t n [])) 4 at) (done n) s next)
+unfolding text_number is_path here check done refuse ◌>>=◌ ◌>>◌ bind
+spelled-after t s at spelled = go (number 2 s at)
+  where
+    test : (b : Bool) (n k : ℕ) → bind (check b 4 at s k) (λ u next. bind (check (spelled (get_or t n [])) 4 at s next) (λ v after. ok n after)) ≡ bind (bind (check b 4 at s k) (λ u next. ok n next)) (λ n next. bind (check (spelled (get_or t n [])) 4 at s next) (λ v after. ok n after))
+    test true n k = refl
+    test false n k = refl
 
-    pub path-refused : (m p : ℕ) → a ≡ ReadText.Refused m p → a ≡ gave_text (text_number (texts_of s) is_path s at)
-    unfolding text_number here ◌>>=◌ bind gave_text
-    path-refused m p g = g ∙ rw (taken_not text_kind a (number 2 s at) as_text m p g)
+    go : (x : Ans ℕ) → bind x (λ n k. bind (check (ltb n (length t)) 4 at s k) (λ u next. bind (check (spelled (get_or t n [])) 4 at s next) (λ v after. ok n after)))
+        ≡ bind (bind x (λ n k. bind (check (ltb n (length t)) 4 at s k) (λ u next. ok n next))) (λ n next. bind (check (spelled (get_or t n [])) 4 at s next) (λ v after. ok n after))
+    go (ok n k) = test (ltb n (length t)) n k
+    go (refused o p) = refl
 
-    module _ (n k : ℕ) (g : a ≡ ReadText.At n k) where
-      pub path_far : length kinds ≤ n → ReadText.Refused 4 at ≡ gave_text (text_number (texts_of s) is_path s at)
-      unfolding text_number here check refuse ◌>>=◌ ◌>>◌ bind gave_text
-      path_far h = rw (taken_ok text_kind a (number 2 s at) as_text n k g, le-ltb n (length (texts_of s)) (omega (arith, count-known)))
+pub path-near : (t : List Text) (s : List ℕ) (at n k : ℕ) → ok n k ≡ text_number t is_path s at → n < length t
+unfolding text_number is_path here check done refuse ◌>>=◌ ◌>>◌ bind
+path-near t s at n k e = go (number 2 s at) e
+  where
+    near : (m next : ℕ) → (length t ≤ m) ⊎ (m < length t) → ok n k ≡ bind (check (ltb m (length t)) 4 at s next) (λ u after. ok m after) → n < length t
+    near m next (inl h) e = let z : ok n k ≡ refused 4 at = rw (le-ltb m (length t) h) at e in absurd cc
+    near m next (inr h) e =
+        let f : ok n k ≡ ok m next = rw (lt-ltb m (length t) h) at e in
+        let z : n ≡ m = cc in
+        rw z h
 
-      pub path-read : n < length kinds → ReadText.At n k ≡ gave_text (text_number (texts_of s) is_path s at)
-      unfolding text_number is_path here check done ◌>>=◌ ◌>>◌ bind gave_text
-      path-read h = rw (taken_ok text_kind a (number 2 s at) as_text n k g, lt-ltb n (length (texts_of s)) (omega (arith, count-known)))
-
-  -- a text of a kind
-  module _ (at : ℕ) (a : ReadText) (read : a ≡ gave_text (text_number (texts_of s) is_path s at)) (kind : ℕ) where
-    pub spelled-refused : (m p : ℕ) → a ≡ ReadText.Refused m p → a ≡ gave_text (text_number (texts_of s) (of_kind kind) s at)
-    unfolding bind gave_text
-    spelled-refused m p g = g ∙ rw (spelled-after (texts_of s) s at (of_kind kind), taken_not text_kind a (text_number (texts_of s) is_path s at) read m p g)
-
-    module _ (n k : ℕ) (g : a ≡ ReadText.At n k) where
-      kind-known : get_or kinds n 0 ≡ kind_of (get_or (texts_of s) n [])
-      unfolding kinds_of kind_of kind_by is_name is_float
-      kind-known = ap (λ (l : List ℕ). get_or l n 0) known ∙ get_or-map kind_of (texts_of s) n []
-
-      pub spelled-read : get_or kinds n 0 ≡ kind → ReadText.At n k ≡ gave_text (text_number (texts_of s) (of_kind kind) s at)
-      unfolding of_kind check done ◌>>◌ bind gave_text
-      spelled-read e = rw (spelled-after (texts_of s) s at (of_kind kind), taken_ok text_kind a (text_number (texts_of s) is_path s at) read n k g, eq-eqb (kind_of (get_or (texts_of s) n [])) kind (sym kind-known ∙ e))
-
-      pub spelled-other : (get_or kinds n 0 ≡ kind → ⊥) → ReadText.Refused 4 at ≡ gave_text (text_number (texts_of s) (of_kind kind) s at)
-      unfolding of_kind check refuse ◌>>◌ bind gave_text
-      spelled-other e = rw (spelled-after (texts_of s) s at (of_kind kind), taken_ok text_kind a (text_number (texts_of s) is_path s at) read n k g, ne_eqb (kind_of (get_or (texts_of s) n [])) kind (λ f. e (kind-known ∙ f)))
-
-  -- a text number that was read is below the number of texts
-  module _ (at : ℕ) (a : ReadText) (read : a ≡ gave_text (text_number (texts_of s) is_path s at)) (n k : ℕ) (g : a ≡ ReadText.At n k) where
-    pub path-near : n < length kinds
-    unfolding text_number is_path here check done refuse ◌>>=◌ ◌>>◌ bind
-    path-near = rw count-known (go (number 2 s at) (taken_ok text_kind a (text_number (texts_of s) is_path s at) read n k g))
-      where
-        near : (m next : ℕ) → (length (texts_of s) ≤ m) ⊎ (m < length (texts_of s)) → judged (texts_of s) is_path at s m next ≡ ok n k → n < length (texts_of s)
-        near m next (inl h) e = absurd (never_ok {number = 4} {place = at} e (rw (le-ltb m (length (texts_of s)) h)))
-        near m next (inr h) e =
-            let f : ok m next ≡ ok n k = rw (lt-ltb m (length (texts_of s)) h) at e in
-            let z : m ≡ n = cc in
-            rw z at h
-
-        go : (x : Ans ℕ) → bind x (λ n next. judged (texts_of s) is_path at s n next) ≡ ok n k → n < length (texts_of s)
-        go (ok m next) e = near m next (le-or-lt _ _) e
-        go (refused m p) e = absurd (never_ok e refl)
-
-pub ruleset text-numbers = (path-refused, path_far, path-read, path-near, spelled-refused, spelled-read, spelled-other)
+    go : (x : Ans ℕ) → ok n k ≡ bind x (λ m next. bind (check (ltb m (length t)) 4 at s next) (λ u after. ok m after)) → n < length t
+    go (ok m next) e = near m next (le-or-lt _ _) e
+    go (refused o p) e = absurd cc
 
 -- a kind says the spelling
-float_kind : (a b : Bool) → (a ≡ true → b ≡ false) → eqb (kind_by a b) 2 ≡ b
-unfolding kind_by
-float_kind true b h = sym (h refl)
-float_kind false true h = refl
-float_kind false false h = refl
+kind-says : (name float : Bool) (x : Text) (k : Spelling) → is_name x ≡ name → is_float x ≡ float → (name ≡ true → float ≡ false) → sameb the_type (kind_by name float) k ≡ of_kind k x
+unfolding kind_by of_kind
+kind-says true float x Name e f h = sym e
+kind-says true float x Float e f h = sym (f ∙ h refl)
+kind-says true float x Neither e f h = rw e
+kind-says false true x Name e f h = sym e
+kind-says false true x Float e f h = sym f
+kind-says false true x Neither e f h = rw (e, f)
+kind-says false false x Name e f h = sym e
+kind-says false false x Float e f h = sym f
+kind-says false false x Neither e f h = rw (e, f)
 
 not_digit : (c : ℕ) → letter c ≡ true → digit c ≡ false
-unfolding digit
-not_digit c h = go (le-or-lt 65 c)
-  where
-    go : (65 ≤ c) ⊎ (c < 65) → (leb 48 c && leb c 57) ≡ false
-    go (inl l) = rw (lt-leb c 57 (omega arith), and-false)
-    go (inr l) = absurd (false≢true (letter-below c l ∙ h))
+unfolding letter digit
+not_digit c h = grind (arith, nat_tests)
 
 no_float : (x : Text) → is_name x ≡ true → is_float x ≡ false
 unfolding is_name is_float
 no_float [] h = refl
 no_float (c ∷ cs) h = rw (not_digit c ((and-eq-true_iff (letter c) _).0 h).0)
 
-module _ (s : List ℕ) (at : ℕ) (t : List Text) (r : ReadText) where
-  pub name_is : r ≡ gave_text (text_number t (of_kind 1) s at) → r ≡ gave_text (text_number t is_name s at)
-  unfolding kind_of of_kind
-  name_is e = e ∙ ap gave_text (spelled-alike t s at (of_kind 1) is_name (λ x. name-kind (is_name x) (is_float x)))
+pub kind_same : (x : Text) (k : Spelling) → sameb the_type (kind_of x) k ≡ of_kind k x
+unfolding kind_of
+kind_same x k = kind-says (is_name x) (is_float x) x k refl refl (no_float x)
 
-  pub float_is : r ≡ gave_text (text_number t (of_kind 2) s at) → r ≡ gave_text (text_number t is_float s at)
-  unfolding kind_of of_kind
-  float_is e = e ∙ ap gave_text (spelled-alike t s at (of_kind 2) is_float (λ x. float_kind (is_name x) (is_float x) (no_float x)))
+pub kind_allowed : (x : Text) (kind : Spelling) → kind ≡ kind_of x → (r : Bool) → r ≡ sameb the_type kind Name → r ≡ true → (place : ℕ) (s : List ℕ) (at : ℕ) → allowed x place s at ≡ well at
+unfolding of_kind
+kind_allowed x kind e r test g place s at = name_allowed x place s at (sym (kind_same x Name) ∙ rw e at (sym test) ∙ g)
 
-pub ruleset names = (name_is, float_is)
+-- a text number that was read, and a test on how the code knows its text to be spelled
+module _ (s : List ℕ) (kinds : List Spelling) (known : kinds ≡ kinds_of s) (at n k : ℕ) (read : ok n k ≡ text_number (texts_of s) is_path s at) (m : ℕ) (same : m ≡ n) (d kind : Spelling) (r : Bool) (test : r ≡ sameb the_type (get_or kinds m d) kind) where
+  told : r ≡ of_kind kind (get_or (texts_of s) n [])
+  unfolding kinds_of
+  told = test ∙ rw (same, known, get_or-map kind_of (texts_of s) n [] d (path-near (texts_of s) s at n k read)) (kind_same (get_or (texts_of s) n []) kind)
+
+  pub spelled-read : r ≡ true → ok n k ≡ text_number (texts_of s) (of_kind kind) s at
+  unfolding check done ◌>>◌ bind
+  spelled-read e = sym (rw (spelled-after (texts_of s) s at (of_kind kind), ← read, ← told, e) refl)
+
+  pub spelled-other : r ≡ false → refused 4 at ≡ text_number (texts_of s) (of_kind kind) s at
+  unfolding check refuse ◌>>◌ bind
+  spelled-other e = sym (rw (spelled-after (texts_of s) s at (of_kind kind), ← read, ← told, e) refl)
+
+pub ruleset named = (allowed_none, allowed_some, length-kinds_of)

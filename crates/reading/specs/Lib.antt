@@ -1,2 +1,4 @@
 pub mod Answers
 pub mod Section
+pub mod Spans
+pub mod Sources

@@ -1,5 +1,5 @@
 -- The text section as the code goes through it, by its length bytes, and the kind and checksum of each text.
-use Rattle.std.specs.Prelude.{◌≡◌, ℕ, zero, suc, ◌+◌, ◌*◌, ◌/◌, ◌%◌, ◌^◌, List, [], ◌∷◌, map, Bool, true, false, ◌||◌, eqb, leb, length, get_or, take}
+use Rattle.std.specs.Prelude.{◌≡◌, ℕ, zero, suc, ◌+◌, ◌*◌, ◌/◌, ◌%◌, ◌^◌, List, [], ◌∷◌, map, Bool, true, false, not, ◌||◌, leb, length, get_or, take}
 use Rattle.ast.specs.Tree.{Text}
 use Rattle.tree.specs.Limits.{texts_limit}
 use Rattle.tree.specs.Ans.{Reader, ◌>>=◌, ◌>>◌, done, here, check}
@@ -7,7 +7,10 @@ use Rattle.tree.specs.Read.{u16}
 use Rattle.tree.specs.Texts.{is_name, is_float, text, texts, text_at, past}
 use Rattle.tree.specs.Decode.{texts_of}
 use Rattle.reading.specs.declared.answers.Read.{Read}
-use Rattle.reading.specs.Answers.{forget}
+use Rattle.reading.specs.declared.answers.Read.TheVariants.{At}
+use Rattle.reading.specs.declared.spelling.Spelling.{Spelling}
+use Rattle.reading.specs.declared.spelling.Spelling.TheVariants.{Neither, Name, Float}
+use Rattle.reading.specs.Answers.{answer, forget}
 
 -- so many texts from a place on, and the place past them
 unfoldable pub texts_from : List ℕ → ℕ → ℕ → List Text
@@ -18,25 +21,26 @@ unfoldable pub past_texts : List ℕ → ℕ → ℕ → ℕ
 past_texts s zero at = at
 past_texts s (suc n) at = past_texts s n (past s at)
 
--- 1 a name, 2 a float's spelling, 0 neither
-unfoldable pub kind_by : Bool → Bool → ℕ
-kind_by true float = 1
-kind_by false true = 2
-kind_by false false = 0
+unfoldable pub kind_by : Bool → Bool → Spelling
+kind_by true float = Name
+kind_by false true = Float
+kind_by false false = Neither
 
-unfoldable pub kind_of : Text → ℕ
+unfoldable pub kind_of : Text → Spelling
 kind_of x = kind_by (is_name x) (is_float x)
 
-unfoldable pub of_kind : ℕ → Text → Bool
-of_kind kind x = eqb (kind_of x) kind
+unfoldable pub of_kind : Spelling → Text → Bool
+of_kind Name x = is_name x
+of_kind Float x = is_float x
+of_kind Neither x = not (is_name x || is_float x)
 
 -- a text, of which the kind is told
-unfoldable pub kind_read : Reader ℕ
+unfoldable pub kind_read : Reader Spelling
 kind_read = do
   x ← text []
   done (kind_of x)
 
-unfoldable pub kinds_of : List ℕ → List ℕ
+unfoldable pub kinds_of : List ℕ → List Spelling
 kinds_of s = map kind_of (texts_of s)
 
 -- a checksum with a number put in
@@ -61,11 +65,6 @@ sum_from h (a ∷ b ∷ c ∷ d ∷ cs) = sum_from (mix h (four a b c d)) cs
 unfoldable pub checksum : Text → ℕ
 checksum x = sum_from 0 x
 
--- is a checksum among others?
-unfoldable pub has_sum : ℕ → List ℕ → Bool
-has_sum x [] = false
-has_sum x (y ∷ ys) = eqb x y || has_sum x ys
-
 -- the slot of a checksum, one of 1,024: of a product's last 32 bits the first ten
 abbrev pub slot_of : ℕ → ℕ
 slot_of x = (x % 2 ^ 32 + x / 2 ^ 32) % 2 ^ 32 * 2654435769 / 2 ^ 22 % 1024
@@ -79,7 +78,7 @@ text_count = do
   done n
 
 -- what reading `n` texts answers, and the kinds that it leaves in the first places
-pub record Gathered (s kinds : List ℕ) (n : ℕ) (r : Read) : Type 0 where
-  pub answer : r ≡ forget (texts s 0)
-  pub stored : (k : ℕ) → r ≡ Read.At k → take n kinds ≡ kinds_of s
+pub record Gathered (s : List ℕ) (kinds : List Spelling) (n : ℕ) (r : Read (Unit {0})) : Type 0 where
+  pub told : answer r ≡ forget (texts s 0)
+  pub stored : (k : ℕ) → r ≡ At tt k → take n kinds ≡ kinds_of s
   pub long : length kinds ≡ 256

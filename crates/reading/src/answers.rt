@@ -1,106 +1,41 @@
-// What a read answers: for each kind of value that is read whole, the value and the place past it, or a refusal's number and place.
+// What a read answers: the value and the place past it, or the refusal.
+#![tactic(auto, unfolding(crate::specs::Answers::forget))]
+
 ghost use Rattle.std.specs.Prelude.{◌≡◌};
-ghost use Rattle.reading.specs.Answers.{forget, with_value, gave_text, byte_answer, number_answer, text_answer, span_answer};
+ghost use Rattle.refusal.specs.Refusal.{number_of};
+ghost use Rattle.tree.specs.Ans.{refused};
+ghost use Rattle.reading.specs.Answers.{answer, forget, Mapped};
 
-use crate::numbers::size;
-use span::Span;
+use refusal::{Refusal, Refused};
 
-// Of a list or a tree the place alone: there is nothing to hold it.
+// An enum and no Result: document 01 has each read taken apart by `let .. else` and its refusal passed up.
 #[derive(Clone, Copy)]
-pub enum Read {
-    At(usize),
-    Refused(u8, usize),
+pub enum Read<T> {
+    At(T, usize),
+    Refused(Refused),
 }
 
-// A case byte, the count of a Vec, the length of a text or its kind.
-#[derive(Clone, Copy)]
-pub enum ReadByte {
-    At(u8, usize),
-    Refused(u8, usize),
+pub fn refuse<T>(refusal: Refusal, place: usize) -> Read<T>
+    ensures { answer result ≡ refused (number_of refusal) place }
+{
+    Read::Refused(Refused { refusal, place })
 }
 
-#[derive(Clone, Copy)]
-pub enum ReadNumber {
-    At(u64, usize),
-    Refused(u8, usize),
-}
-
-// The number of a text.
-#[derive(Clone, Copy)]
-pub enum ReadText {
-    At(usize, usize),
-    Refused(u8, usize),
-}
-
-#[derive(Clone, Copy)]
-pub enum ReadSpan {
-    At(Span, usize),
-    Refused(u8, usize),
-}
-
-// A place that was read up to, with a value that is known by then.
-impl Read {
-    pub(crate) fn with_value(self, value: u8) -> ReadByte
-        ensures { result ≡ with_value value self }
+impl<T: Copy> Read<T> {
+    pub fn map<U, F: FnOnce(T) -> U>(self, f: F) -> Read<U>
+        requires { F.IsAlwaysCallable f }
+        ensures { Mapped (F.post f) (answer self) (answer result) }
     {
         match self {
-            Read::At(next) => ReadByte::At(value, next),
-            Read::Refused(number, place) => ReadByte::Refused(number, place),
-        }
-    }
-}
-
-// The same answer without its value: a refusal is passed up so.
-impl ReadByte {
-    pub fn into_read(self) -> Read
-        ensures { result ≡ forget (byte_answer self) }
-    {
-        match self {
-            ReadByte::At(_, next) => Read::At(next),
-            ReadByte::Refused(number, place) => Read::Refused(number, place),
-        }
-    }
-}
-
-impl ReadNumber {
-    pub fn into_read(self) -> Read
-        ensures { result ≡ forget (number_answer self) }
-    {
-        match self {
-            ReadNumber::At(_, next) => Read::At(next),
-            ReadNumber::Refused(number, place) => Read::Refused(number, place),
+            Read::At(value, next) => Read::At(f(value), next),
+            Read::Refused(refused) => Read::Refused(refused),
         }
     }
 
-    // The number as that of a text.
-    pub(crate) fn into_text(self) -> ReadText
-        ensures { result ≡ gave_text (number_answer self) }
+    // The place alone: a refusal is passed up so, and of a list or a tree there is nothing else to hold.
+    pub fn into_place(self) -> Read<()>
+        ensures { answer result ≡ forget (answer self) }
     {
-        match self {
-            ReadNumber::At(n, next) => ReadText::At(size(n), next),
-            ReadNumber::Refused(number, place) => ReadText::Refused(number, place),
-        }
-    }
-}
-
-impl ReadText {
-    pub fn into_read(self) -> Read
-        ensures { result ≡ forget (text_answer self) }
-    {
-        match self {
-            ReadText::At(_, next) => Read::At(next),
-            ReadText::Refused(number, place) => Read::Refused(number, place),
-        }
-    }
-}
-
-impl ReadSpan {
-    pub fn into_read(self) -> Read
-        ensures { result ≡ forget (span_answer self) }
-    {
-        match self {
-            ReadSpan::At(_, next) => Read::At(next),
-            ReadSpan::Refused(number, place) => Read::Refused(number, place),
-        }
+        self.map(|_| ())
     }
 }

@@ -2,6 +2,8 @@
 #![tactic(auto)]
 
 pub mod answers;
+pub mod containers;
 pub mod numbers;
-mod spelling;
+pub mod source;
+pub mod spelling;
 pub mod texts;

@@ -1,162 +1,124 @@
 // The values that every part of the tree file is made of.
-ghost use Rattle.std.specs.Prelude.{◌≡◌, ◌≤◌, ◌<◌, ◌+◌, ◌-◌, ◌^◌, length, take, drop};
-ghost use Rattle.text.specs.Big.{value};
-ghost use Rattle.tree.specs.Read.{byte, number, u16, u64, span, case_byte, option, count};
-ghost use Rattle.tree.specs.Stmts.{slice};
-ghost use Rattle.reading.specs.Answers.{forget, gave_byte, gave_number, gave_span};
+#![tactic(auto, unfolding(crate::specs::Answers::forget, tree::specs::Ans::bind, tree::specs::Ans::here, tree::specs::Ans::check, tree::specs::Ans::done, tree::specs::Ans::refuse, tree::specs::Read::within, tree::specs::Read::byte, tree::specs::Read::bytes, tree::specs::Read::number, tree::specs::Read::span, tree::specs::Read::case_byte, tree::specs::Read::count, tree::specs::Stmts::slice), using(crate::proofs::Steps::steps))]
 
-use crate::answers::{Read, ReadByte, ReadNumber, ReadSpan};
+ghost use Rattle.std.specs.Prelude.{◌≡◌};
+ghost use Rattle.tree.specs.Read.{byte, bytes, u16, u64, span, case_byte, option, count};
+ghost use Rattle.tree.specs.Stmts.{slice};
+ghost use Rattle.reading.specs.Answers.{answer, forget};
+ghost use Rattle.reading.specs.Spans.{span_of};
+
+use crate::answers::{Read, refuse};
+use crate::containers::read_option;
+use refusal::Refusal;
 use span::Span;
-use text::wide;
 
 const VEC_LIMIT: u8 = 16;
 
 // The bytes that a Bool or an Option begins with: 0 and 1.
 pub const FLAGS: u8 = 2;
 
-pub fn size(n: u64) -> usize
-    ensures { result ≡ n }
+pub(crate) fn read_byte(s: &[u8], at: usize) -> Read<u8>
+    ensures { answer result ≡ byte s.now at }
 {
-    n as usize
-}
-
-pub(crate) fn read_byte(s: &[u8], at: usize) -> ReadByte
-    ensures { result ≡ gave_byte (byte s.now at) }
-{
-    if s.len() <= at {
-        return ReadByte::Refused(3, s.len());
+    match s.get(at) {
+        Some(b) => Read::At(*b, at + 1),
+        None => refuse(Refusal::WrongEnd, s.len()),
     }
-    ReadByte::At(s[at], at + 1)
 }
 
 // A byte below the number of cases.
-pub fn read_case(s: &[u8], at: usize, cases: u8) -> ReadByte
-    ensures { result ≡ gave_byte (case_byte cases s.now at) }
+pub fn read_case(s: &[u8], at: usize, cases: u8) -> Read<u8>
+    ensures { answer result ≡ case_byte cases s.now at }
 {
     let a = read_byte(s, at);
-    let ReadByte::At(b, k) = a else {
+    let Read::At(b, _) = a else {
         return a;
     };
     if b < cases {
-        return ReadByte::At(b, k);
+        return a;
     }
-    ReadByte::Refused(4, at)
+    refuse(Refusal::NotAllowed, at)
 }
 
 // The count of a Vec.
-pub fn read_count(s: &[u8], at: usize) -> ReadByte
-    ensures { result ≡ gave_byte (count s.now at) }
+pub fn read_count(s: &[u8], at: usize) -> Read<u8>
+    ensures { answer result ≡ count s.now at }
 {
     let a = read_byte(s, at);
-    let ReadByte::At(n, k) = a else {
+    let Read::At(n, _) = a else {
         return a;
     };
     if VEC_LIMIT < n {
-        return ReadByte::Refused(5, at);
+        return refuse(Refusal::LargeCount, at);
     }
-    ReadByte::At(n, k)
+    a
 }
 
-// How many bytes there are from a place on.
-pub(crate) fn bytes_from(s: &[u8], at: usize) -> usize
-    ensures { result ≡ length s.now - at }
+fn read_bytes<const N: usize>(s: &[u8], at: usize) -> Read<[u8; N]>
+    ensures { answer result ≡ bytes N s.now at }
 {
-    if s.len() < at {
-        return 0;
+    if let Some(rest) = s.get(at..)
+        && let Some(first) = rest.first_chunk()
+    {
+        return Read::At(*first, at + N);
     }
-    s.len() - at
-}
-
-// The number from one place to another, at most eight bytes: the first counts most.
-fn number_at(s: &[u8], at: usize, end: usize) -> u64
-    requires { (at ≤ end) × (end ≤ at + 8) × (end ≤ length s.now) }
-    ensures { (result ≡ value 0 (take (end - at) (drop at s.now))) × (result < 256 ^ (end - at)) }
-{
-    let mut n: u64 = 0;
-    let mut k = at;
-    while k < end {
-        n = n * 256 + wide(s[k]) as u64;
-        k += 1;
-    }
-    n
-}
-
-fn read_number(s: &[u8], at: usize, width: usize) -> ReadNumber
-    requires { (0 < width) × (width ≤ 8) }
-    ensures { result ≡ gave_number (number width s.now at) }
-{
-    if bytes_from(s, at) < width {
-        return ReadNumber::Refused(3, s.len());
-    }
-    let next = at + width;
-    ReadNumber::At(number_at(s, at, next), next)
+    refuse(Refusal::WrongEnd, s.len())
 }
 
 // A text number, or a count of texts or statements.
-pub fn read_u16(s: &[u8], at: usize) -> ReadNumber
-    ensures { result ≡ gave_number (u16 s.now at) }
+pub fn read_u16(s: &[u8], at: usize) -> Read<u16>
+    ensures { answer result ≡ u16 s.now at }
 {
-    read_number(s, at, 2)
+    read_bytes(s, at).map(u16::from_be_bytes)
 }
 
-pub fn read_u64(s: &[u8], at: usize) -> ReadNumber
-    ensures { result ≡ gave_number (u64 s.now at) }
+pub fn read_u64(s: &[u8], at: usize) -> Read<u64>
+    ensures { answer result ≡ u64 s.now at }
 {
-    read_number(s, at, 8)
+    read_bytes(s, at).map(u64::from_be_bytes)
 }
 
-fn read_span(s: &[u8], at: usize) -> ReadSpan
-    ensures { result ≡ gave_span (span s.now at) }
+fn span_of(bytes: [u8; 8]) -> Span
+    ensures { result ≡ span_of bytes }
 {
-    if bytes_from(s, at) < 8 {
-        return ReadSpan::Refused(3, s.len());
+    let [a, b, c, d, e, f, g, h] = bytes;
+    Span {
+        start: u32::from_be_bytes([a, b, c, d]),
+        end: u32::from_be_bytes([e, f, g, h]),
     }
-    let middle = at + 4;
-    let next = middle + 4;
-    let start = number_at(s, at, middle) as u32;
-    let end = number_at(s, middle, next) as u32;
-    ReadSpan::At(Span { start, end }, next)
+}
+
+fn read_span(s: &[u8], at: usize) -> Read<Span>
+    ensures { answer result ≡ span s.now at }
+{
+    read_bytes(s, at).map(span_of)
 }
 
 // A span that is only passed over. Compiled, its numbers are not worked out.
-pub fn pass_span(s: &[u8], at: usize) -> Read
-    ensures { result ≡ forget (span s.now at) }
+pub fn pass_span(s: &[u8], at: usize) -> Read<()>
+    ensures { answer result ≡ forget (span s.now at) }
 {
-    read_span(s, at).into_read()
+    read_span(s, at).into_place()
 }
 
-pub fn read_optional_u64(s: &[u8], at: usize) -> Read
-    ensures { result ≡ forget (option u64 s.now at) }
+pub fn read_optional_u64(s: &[u8], at: usize) -> Read<()>
+    ensures { answer result ≡ forget (option u64 s.now at) }
 {
-    let a = read_case(s, at, FLAGS);
-    let ReadByte::At(b, k) = a else {
-        return a.into_read();
-    };
-    if b == 0 {
-        return Read::At(k);
-    }
-    read_u64(s, k).into_read()
+    read_option(s, at, |k| read_u64(s, k).into_place())
 }
 
-fn read_slice(s: &[u8], at: usize) -> Read
-    ensures { result ≡ forget (slice s.now at) }
+fn read_slice(s: &[u8], at: usize) -> Read<()>
+    ensures { answer result ≡ forget (slice s.now at) }
 {
     let a = read_u64(s, at);
-    let ReadNumber::At(_, k) = a else {
-        return a.into_read();
+    let Read::At(_, k) = a else {
+        return a.into_place();
     };
-    read_u64(s, k).into_read()
+    read_u64(s, k).into_place()
 }
 
-pub fn read_optional_slice(s: &[u8], at: usize) -> Read
-    ensures { result ≡ forget (option slice s.now at) }
+pub fn read_optional_slice(s: &[u8], at: usize) -> Read<()>
+    ensures { answer result ≡ forget (option slice s.now at) }
 {
-    let a = read_case(s, at, FLAGS);
-    let ReadByte::At(b, k) = a else {
-        return a.into_read();
-    };
-    if b == 0 {
-        return Read::At(k);
-    }
-    read_slice(s, k)
+    read_option(s, at, |k| read_slice(s, k))
 }

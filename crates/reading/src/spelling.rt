@@ -1,18 +1,17 @@
-// How names and float literals are spelled, and whether two texts are equal.
-ghost use Rattle.std.specs.Prelude.{◌≡◌, ◌<◌, ◌≤◌, ◌+◌, ◌^◌, length, ◌&&◌, ◌||◌};
-ghost use Rattle.text.specs.Text.{same};
+// How names and float literals are spelled, and the checksums by which texts are told apart.
+#![tactic(auto, unfolding(tree::specs::Texts::letter, tree::specs::Texts::digit, tree::specs::Texts::digits, tree::specs::Texts::fraction, tree::specs::Texts::is_name, tree::specs::Texts::is_float, crate::specs::Section::kind_of, crate::specs::Section::kind_by), using(crate::proofs::Spelled::spelled))]
+
+ghost use Rattle.std.specs.Prelude.{◌≡◌, ◌<◌, ◌^◌, ◌&&◌, ◌||◌, not, position};
 ghost use Rattle.tree.specs.Texts.{letter, digit, every, digits, fraction, is_name, is_float};
-ghost use Rattle.reading.specs.Section.{kind_of, mix, four_at, checksum as sum_of};
+ghost use Rattle.reading.specs.Section.{kind_of, mix, checksum as sum_of};
 
-use text::wide;
-
-pub const NEITHER: u8 = 0;
-
-pub const NAME: u8 = 1;
-
-pub const FLOAT: u8 = 2;
-
-const POINT: u8 = 46;
+// A float literal's spelling is no name's.
+#[derive(Clone, Copy, PartialEq, Eq)]
+pub enum Spelling {
+    Neither,
+    Name,
+    Float,
+}
 
 // A checksum is below 2^48.
 const SUM_LIMIT: u64 = 281474976710656;
@@ -20,179 +19,108 @@ const SUM_LIMIT: u64 = 281474976710656;
 fn is_letter(c: u8) -> bool
     ensures { result ≡ letter c }
 {
-    match c {
-        65..=90 => true,
-        97..=122 => true,
-        95 => true,
-        _ => false,
-    }
+    c.is_ascii_alphabetic() || c == b'_'
 }
 
-fn is_digit(c: u8) -> bool
-    ensures { result ≡ digit c }
+fn allows(letters: bool, c: u8) -> bool
+    ensures { result ≡ ((letters && letter c) || digit c) }
 {
-    match c {
-        48..=57 => true,
-        _ => false,
-    }
-}
-
-pub fn both(a: bool, b: bool) -> bool
-    ensures { result ≡ (a && b) }
-{
-    if a {
-        return b;
-    }
-    false
+    (letters && is_letter(c)) || c.is_ascii_digit()
 }
 
 // Digits alone; with `letters`, letters and underscores too. Every byte is looked at, so that many are at once.
 fn all_of(x: &[u8], letters: bool) -> bool
     ensures { result ≡ every (λ c. (letters && letter c) || digit c) x.now }
 {
-    let mut good = true;
-    let mut i = 0;
-    while i < x.len() {
-        good = both(allows(letters, x[i]), good);
-        i += 1;
-    }
-    good
-}
-
-fn allows(letters: bool, c: u8) -> bool
-    ensures { result ≡ ((letters && letter c) || digit c) }
-{
-    if letters {
-        if is_letter(c) {
-            return true;
-        }
-        return is_digit(c);
-    }
-    is_digit(c)
+    x.iter().fold(true, |good, c| good & allows(letters, *c))
 }
 
 fn is_digits(x: &[u8]) -> bool
     ensures { result ≡ digits x.now }
 {
-    if x.len() == 0 {
-        return false;
-    }
-    all_of(x, false)
+    !x.is_empty() && all_of(x, false)
 }
 
 fn is_name(x: &[u8]) -> bool
     ensures { result ≡ is_name x.now }
 {
-    if x.len() == 0 {
-        return false;
+    match x {
+        [first, ..] => is_letter(*first) && all_of(x, true),
+        [] => false,
     }
-    if is_letter(x[0]) {
-        return all_of(x, true);
-    }
-    false
+}
+
+// The first byte that is no digit.
+fn digits_end(x: &[u8]) -> Option<usize>
+    ensures { result ≡ position (λ c. not (digit c)) x.now }
+{
+    x.iter().position(|c| !c.is_ascii_digit())
 }
 
 // More digits, a point, one or more digits.
 fn is_fraction(x: &[u8]) -> bool
     ensures { result ≡ fraction x.now }
 {
-    let mut i = 0;
-    while i < x.len() {
-        if is_digit(x[i]) {
-            i += 1;
-        } else {
-            if x[i] == POINT {
-                return is_digits(&x[i + 1..]);
-            }
-            return false;
-        }
+    match digits_end(x) {
+        Some(i) => x[i] == b'.' && is_digits(&x[i + 1..]),
+        None => false,
     }
-    false
 }
 
 fn is_float(x: &[u8]) -> bool
     ensures { result ≡ is_float x.now }
 {
-    if x.len() == 0 {
-        return false;
+    match x {
+        [first, rest @ ..] => first.is_ascii_digit() && is_fraction(rest),
+        [] => false,
     }
-    if is_digit(x[0]) {
-        return is_fraction(&x[1..]);
-    }
-    false
 }
 
-pub fn kind(x: &[u8]) -> u8
+pub(crate) fn kind(x: &[u8]) -> Spelling
     ensures { result ≡ kind_of x.now }
 {
     if is_name(x) {
-        return NAME;
+        Spelling::Name
+    } else if is_float(x) {
+        Spelling::Float
+    } else {
+        Spelling::Neither
     }
-    if is_float(x) {
-        return FLOAT;
-    }
-    NEITHER
 }
 
 // A checksum with a number put in.
-fn mixed(h: u64, w: u64) -> u64
-    requires { (h < 2 ^ 48) × (w < 2 ^ 32) }
+fn mixed(h: u64, w: u32) -> u64
+    requires { h < 2 ^ 48 }
     ensures { result ≡ mix h w }
 {
-    (h * 157 + w) % SUM_LIMIT
+    (h * 157 + u64::from(w)) % SUM_LIMIT
 }
 
 // A checksum with two numbers put in, at once: 24649 is the square of 157.
-fn mixed_twice(h: u64, v: u64, w: u64) -> u64
-    requires { (h < 2 ^ 48) × (v < 2 ^ 32) × (w < 2 ^ 32) }
+fn mixed_twice(h: u64, v: u32, w: u32) -> u64
+    requires { h < 2 ^ 48 }
     ensures { result ≡ mix (mix h v) w }
 {
-    (h * 24649 + v * 157 + w) % SUM_LIMIT
+    (h * 24649 + u64::from(v) * 157 + u64::from(w)) % SUM_LIMIT
 }
 
-// Four bytes as one number.
-fn four_at(x: &[u8], i: usize) -> u64
-    requires { i + 4 ≤ length x.now }
-    ensures { (result ≡ four_at x.now i) × (result < 2 ^ 32) }
-{
-    let n = wide(x[i]) + wide(x[i + 1]) * 256 + wide(x[i + 2]) * 65536 + wide(x[i + 3]) * 16777216;
-    n as u64
-}
-
-pub fn checksum(x: &[u8]) -> u64
+pub(crate) fn checksum(x: &[u8]) -> u64
     ensures { result ≡ sum_of x.now }
 {
     let mut h = 0;
-    let mut i = 0;
-    while i + 8 <= x.len() {
-        h = mixed_twice(h, four_at(x, i), four_at(x, i + 4));
-        i += 8;
+    let mut rest = x;
+    while let Some(([a, b, c, d, e, f, g, i], tail)) = rest.split_first_chunk::<8>() {
+        let v = u32::from_le_bytes([*a, *b, *c, *d]);
+        let w = u32::from_le_bytes([*e, *f, *g, *i]);
+        h = mixed_twice(h, v, w);
+        rest = tail;
     }
-    while i + 4 <= x.len() {
-        h = mixed(h, four_at(x, i));
-        i += 4;
+    while let Some((four, tail)) = rest.split_first_chunk() {
+        h = mixed(h, u32::from_le_bytes(*four));
+        rest = tail;
     }
-    while i < x.len() {
-        h = mixed(h, wide(x[i]) as u64);
-        i += 1;
+    for b in rest {
+        h = mixed(h, u32::from(*b));
     }
     h
-}
-
-// Every byte is looked at, so that many are compared at once.
-pub fn is_same(x: &[u8], y: &[u8]) -> bool
-    ensures { result ≡ same x.now y.now }
-{
-    if x.len() != y.len() {
-        return false;
-    }
-    let mut alike = true;
-    let mut i = 0;
-    while i < x.len() {
-        if x[i] != y[i] {
-            alike = false;
-        }
-        i += 1;
-    }
-    alike
 }

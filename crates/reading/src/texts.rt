@@ -1,17 +1,20 @@
 // The texts of the file, and the numbers by which the tree names them.
-ghost use Rattle.std.specs.Prelude.{◌≡◌, ◌≤◌, ◌<◌, ◌-◌, ◌||◌, eqb, map, length, take, drop};
-ghost use Rattle.text.specs.Text.{same};
-ghost use Rattle.tree.specs.Texts.{between, every, allowed, among, is_name, is_float, is_path, text_at, past};
-ghost use Rattle.tree.specs.Exprs.{text_number};
-ghost use Rattle.reading.specs.Answers.{forget, gave_byte, gave_number, gave_text};
-ghost use Rattle.reading.specs.Section.{texts_from, past_texts, text_count, of_kind, kind_read, kinds_of, checksum, has_sum, slot_of, Gathered};
-ghost use Rattle.tree.specs.Ans.{ok};
-ghost use Rattle.tree.specs.Decode.{texts_of};
+#![tactic(auto, unfolding(crate::specs::Answers::forget, crate::specs::Section::text_count, crate::specs::Section::of_kind, crate::specs::Section::kind_read, tree::specs::Texts::text, tree::specs::Texts::among, tree::specs::Read::byte, tree::specs::Read::bytes, tree::specs::Read::within, tree::specs::Exprs::text_number, tree::specs::Texts::is_path, tree::specs::Ans::bind, tree::specs::Ans::here, tree::specs::Ans::check, tree::specs::Ans::done, tree::specs::Ans::refuse), using(crate::proofs::Steps::steps, crate::proofs::Named::named))]
 
-use crate::answers::{Read, ReadByte, ReadNumber, ReadText};
-use crate::numbers::{bytes_from, read_byte, read_u16, size};
-use crate::spelling;
-use text::wide;
+ghost use Rattle.std.specs.Prelude.{◌≡◌, ◌≤◌, ◌<◌, ◌-◌, not, map, position, length, take, drop};
+ghost use Rattle.text.specs.Text.{same};
+ghost use Rattle.tree.specs.Texts.{between, allowed, among, is_name, is_float, is_path, text_at, past};
+ghost use Rattle.tree.specs.Exprs.{text_number};
+ghost use Rattle.reading.specs.Answers.{answer, forget};
+ghost use Rattle.reading.specs.Section.{texts_from, past_texts, text_count, of_kind, kind_read, checksum, slot_of, Gathered};
+ghost use Rattle.tree.specs.Ans.{ok};
+ghost use Rattle.reading.specs.Sources.{in_file};
+
+use crate::answers::{Read, refuse};
+use crate::numbers::{read_byte, read_u16};
+use crate::source::Source;
+use crate::spelling::{self, Spelling};
+use refusal::Refusal;
 
 pub const TEXTS_LIMIT: usize = 256;
 
@@ -29,49 +32,22 @@ const HALF: u64 = 4294967296;
 // The golden section of 2^32: it spreads near numbers.
 const SPREAD: u64 = 2654435769;
 
-// The bytes of texts.
-const FIRST_BYTE: u8 = 33;
-
-const LAST_BYTE: u8 = 126;
-
-fn is_allowed(b: u8) -> bool
-    ensures { result ≡ between 33 126 b }
+// The first byte that a text may not have.
+fn not_allowed(x: &[u8]) -> Option<usize>
+    ensures { result ≡ position (λ c. not (between 33 126 c)) x.now }
 {
-    if b < FIRST_BYTE {
-        return false;
-    }
-    if LAST_BYTE < b {
-        return false;
-    }
-    true
-}
-
-// Every byte is looked at, so that many are at once.
-fn all_allowed(x: &[u8]) -> bool
-    ensures { result ≡ every (between 33 126) x.now }
-{
-    let mut good = true;
-    let mut i = 0;
-    while i < x.len() {
-        good = spelling::both(is_allowed(x[i]), good);
-        i += 1;
-    }
-    good
+    x.iter().position(|b| !b.is_ascii_graphic())
 }
 
 // The bytes of a text, from `at` to `end`: the first that is not allowed is refused.
-fn read_allowed(s: &[u8], at: usize, end: usize) -> Read
+fn read_allowed(s: &[u8], at: usize, end: usize) -> Read<()>
     requires { (at ≤ end) × (end ≤ length s.now) }
-    ensures { result ≡ forget (allowed (take (end - at) (drop at s.now)) at s.now end) }
+    ensures { answer result ≡ allowed (take (end - at) (drop at s.now)) at s.now end }
 {
-    if all_allowed(&s[at..end]) {
-        return Read::At(end);
+    match not_allowed(&s[at..end]) {
+        None => Read::At((), end),
+        Some(i) => refuse(Refusal::NotAllowed, at + i),
     }
-    let mut k = at;
-    while is_allowed(s[k]) {
-        k += 1;
-    }
-    Read::Refused(4, k)
 }
 
 // The place past the text whose length byte is at `at`.
@@ -79,15 +55,14 @@ fn past_text(s: &[u8], at: usize) -> usize
     requires { past s.now at ≤ length s.now }
     ensures { result ≡ past s.now at }
 {
-    at + 1 + wide(s[at])
+    at + 1 + usize::from(s[at])
 }
 
 fn text_at(s: &[u8], at: usize) -> &[u8]
     requires { past s.now at ≤ length s.now }
     ensures { result.now ≡ text_at s.now at }
 {
-    let end = past_text(s, at);
-    &s[at + 1..end]
+    &s[at + 1..past_text(s, at)]
 }
 
 // Whether a text equals the one at `at`, given the checksums of both.
@@ -97,32 +72,7 @@ fn is_text(s: &[u8], at: usize, other: u64, x: &[u8], sum: u64) -> bool
     requires sum_value { sum ≡ checksum x.now }
     ensures { result ≡ same x.now (text_at s.now at) }
 {
-    if sum == other {
-        return spelling::is_same(x, text_at(s, at));
-    }
-    false
-}
-
-fn or_equal(found: bool, sum: u64, other: u64) -> bool
-    ensures { result ≡ (eqb sum other || found) }
-{
-    if sum == other {
-        return true;
-    }
-    found
-}
-
-// Whether a checksum is among others. All are gone through, so that several are compared at once.
-fn has_sum(sums: &[u64], sum: u64) -> bool
-    ensures { result ≡ has_sum sum sums.now }
-{
-    let mut found = false;
-    let mut i = 0;
-    while i < sums.len() {
-        found = or_equal(found, sum, sums[i]);
-        i += 1;
-    }
-    found
+    sum == other && x == text_at(s, at)
 }
 
 // The slot of a checksum: of a product's last 32 bits the first ten.
@@ -130,144 +80,129 @@ fn slot_of(sum: u64) -> usize
     ensures { (result ≡ slot_of sum) × (result < 1024) }
 {
     let folded = (sum % HALF + sum / HALF) % HALF;
-    size(folded * SPREAD / FIRST_BITS) % SLOTS
+    (folded * SPREAD / FIRST_BITS) as usize % SLOTS
 }
 
-// Whether a text equals one of the first `n`, whose checksums are lent.
-fn is_repeated(s: &[u8], x: &[u8], sum: u64, n: usize, sums: &[u64]) -> bool
+// Whether a text equals one of the first, whose checksums are lent.
+fn is_repeated(s: &[u8], x: &[u8], sum: u64, sums: &[u64]) -> bool
     requires sum_value { sum ≡ checksum x.now }
-    requires n_bound { n ≤ 256 }
-    requires n_in_bounds { past_texts s.now n 2 ≤ length s.now }
-    requires sums_value { sums.now ≡ map checksum (texts_from s.now n 2) }
-    ensures { result ≡ among x.now (texts_from s.now n 2) }
+    requires sums_in_bounds { past_texts s.now (length sums.now) 2 ≤ length s.now }
+    requires sums_value { sums.now ≡ map checksum (texts_from s.now (length sums.now) 2) }
+    ensures { result ≡ among x.now (texts_from s.now (length sums.now) 2) }
 {
-    if !has_sum(sums, sum) {
+    if !sums.contains(&sum) {
         return false;
     }
     let mut k = 2;
-    let mut i = n;
-    while 0 < i {
-        if is_text(s, k, sums[n - i], x, sum) {
+    for other in sums {
+        if is_text(s, k, *other, x, sum) {
             return true;
         }
         k = past_text(s, k);
-        i -= 1;
     }
     false
 }
 
 // A text, of which the kind is told. Whether an earlier one is equal is not asked.
-fn read_text(s: &[u8], at: usize) -> ReadByte
-    ensures { result ≡ gave_byte (kind_read s.now at) }
+fn read_text(s: &[u8], at: usize) -> Read<Spelling>
+    ensures { answer result ≡ kind_read s.now at }
 {
-    let a = read_byte(s, at);
-    let ReadByte::At(length, start) = a else {
-        return a;
+    let (length, start) = match read_byte(s, at) {
+        Read::At(length, start) => (length, start),
+        Read::Refused(refused) => return Read::Refused(refused),
     };
-    if length == 0 {
-        return ReadByte::Refused(4, at);
+    if length == 0 || TEXT_LIMIT < length {
+        return refuse(Refusal::NotAllowed, at);
     }
-    if TEXT_LIMIT < length {
-        return ReadByte::Refused(4, at);
+    let end = start + usize::from(length);
+    let Some(x) = s.get(start..end) else {
+        return refuse(Refusal::WrongEnd, s.len());
+    };
+    let kind = spelling::kind(x);
+    if kind == Spelling::Name {
+        return Read::At(kind, end); // the bytes of a name are allowed
     }
-    let width = wide(length);
-    if bytes_from(s, start) < width {
-        return ReadByte::Refused(3, s.len());
-    }
-    let end = start + width;
-    let kind = spelling::kind(&s[start..end]);
-    if kind == spelling::NAME {
-        return ReadByte::At(kind, end); // the bytes of a name are allowed
-    }
-    read_allowed(s, start, end).with_value(kind)
+    read_allowed(s, start, end).map(|()| kind)
 }
 
 // How many texts there are.
-pub fn read_text_count(s: &[u8]) -> ReadNumber
-    ensures { result ≡ gave_number (text_count s.now 0) }
+pub fn read_text_count(s: &[u8]) -> Read<u16>
+    ensures { answer result ≡ text_count s.now 0 }
 {
     let a = read_u16(s, 0);
-    let ReadNumber::At(n, k) = a else {
+    let Read::At(n, _) = a else {
         return a;
     };
-    if TEXTS_LIMIT < size(n) {
-        return ReadNumber::Refused(5, 0);
+    if TEXTS_LIMIT < usize::from(n) {
+        return refuse(Refusal::LargeCount, 0);
     }
-    ReadNumber::At(n, k)
+    a
 }
 
 // The `n` texts from `first` on, behind their count. The kind of each is stored.
-pub fn read_texts(s: &[u8], first: usize, n: usize, kinds: &mut [u8; TEXTS_LIMIT]) -> Read
+pub fn read_texts(s: &[u8], first: usize, n: usize, kinds: &mut [Spelling; TEXTS_LIMIT]) -> Read<()>
     requires s_value { text_count s.now 0 ≡ ok n first }
     requires kinds_len { length kinds.old ≡ 256 }
     ensures { Gathered s.now kinds.new n result }
 {
     let mut sums = [0u64; TEXTS_LIMIT];
-    let mut met = [0u8; SLOTS];
+    let mut met = [false; SLOTS];
     let mut k = first;
-    let mut i = 0;
-    while i < n {
+    for i in 0..n {
         let a = read_text(s, k);
-        let ReadByte::At(kind, next) = a else {
-            return a.into_read();
+        let Read::At(kind, next) = a else {
+            return a.into_place();
         };
         let x = &s[k + 1..next];
         let sum = spelling::checksum(x);
         let slot = slot_of(sum);
-        if met[slot] != 0 {
-            if is_repeated(s, x, sum, i, &sums[..i]) {
-                return Read::Refused(4, k);
-            }
+        if met[slot] && is_repeated(s, x, sum, &sums[..i]) {
+            return refuse(Refusal::NotAllowed, k);
         }
-        met[slot] = 1;
+        met[slot] = true;
         kinds[i] = kind;
         sums[i] = sum;
         k = next;
-        i += 1;
     }
-    Read::At(k)
+    Read::At((), k)
 }
 
 // A text number: below the number of texts.
-pub fn read_path(s: &[u8], kinds: &[u8], at: usize) -> ReadText
-    requires { kinds.now ≡ kinds_of s.now }
-    ensures { result ≡ gave_text (text_number (texts_of s.now) is_path s.now at) }
+pub fn read_path(source: &Source, at: usize) -> Read<u16>
+    ensures { answer result ≡ in_file (λ t. text_number t is_path) source.now at }
 {
-    let a = read_u16(s, at).into_text();
-    let ReadText::At(n, k) = a else {
+    let a = read_u16(source.bytes, at);
+    let Read::At(n, _) = a else {
         return a;
     };
-    if n < kinds.len() {
-        return ReadText::At(n, k);
+    if usize::from(n) < source.kinds.len() {
+        return a;
     }
-    ReadText::Refused(4, at)
+    refuse(Refusal::NotAllowed, at)
 }
 
 // A text number whose text is of the kind.
-fn read_spelled(s: &[u8], kinds: &[u8], at: usize, kind: u8) -> ReadText
-    requires { kinds.now ≡ kinds_of s.now }
-    ensures { result ≡ gave_text (text_number (texts_of s.now) (of_kind kind) s.now at) }
+fn read_spelled(source: &Source, at: usize, kind: Spelling) -> Read<u16>
+    ensures { answer result ≡ in_file (λ t. text_number t (of_kind kind)) source.now at }
 {
-    let a = read_path(s, kinds, at);
-    let ReadText::At(n, k) = a else {
+    let a = read_path(source, at);
+    let Read::At(n, _) = a else {
         return a;
     };
-    if kinds[n] == kind {
-        return ReadText::At(n, k);
+    if source.kinds[usize::from(n)] == kind {
+        return a;
     }
-    ReadText::Refused(4, at)
+    refuse(Refusal::NotAllowed, at)
 }
 
-pub fn read_name(s: &[u8], kinds: &[u8], at: usize) -> ReadText
-    requires { kinds.now ≡ kinds_of s.now }
-    ensures { result ≡ gave_text (text_number (texts_of s.now) is_name s.now at) }
+pub fn read_name(source: &Source, at: usize) -> Read<u16>
+    ensures { answer result ≡ in_file (λ t. text_number t is_name) source.now at }
 {
-    read_spelled(s, kinds, at, spelling::NAME)
+    read_spelled(source, at, Spelling::Name)
 }
 
-pub fn read_float(s: &[u8], kinds: &[u8], at: usize) -> ReadText
-    requires { kinds.now ≡ kinds_of s.now }
-    ensures { result ≡ gave_text (text_number (texts_of s.now) is_float s.now at) }
+pub fn read_float(source: &Source, at: usize) -> Read<u16>
+    ensures { answer result ≡ in_file (λ t. text_number t is_float) source.now at }
 {
-    read_spelled(s, kinds, at, spelling::FLOAT)
+    read_spelled(source, at, Spelling::Float)
 }

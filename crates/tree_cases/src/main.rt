@@ -1,17 +1,17 @@
 // Validates the trees on standard input, each behind its length in four bytes, and prints a line for each.
 #![tactic(auto)]
 
-use reader::Validated;
+use refusal::Refused;
 use std::io;
 use std::io::Write;
 
 // More cases than the input has.
 const CASES: usize = 10000;
 
-fn print<W: Write>(out: &mut W, answer: Validated) -> io::Result<()> {
+fn print<W: Write>(out: &mut W, answer: Result<(), Refused>) -> io::Result<()> {
     match answer {
-        Validated::Accepted => writeln!(out, "accepted"),
-        Validated::Refused(number, place) => writeln!(out, "refused {number} {place}"),
+        Ok(()) => writeln!(out, "accepted"),
+        Err(refused) => writeln!(out, "{refused}"),
     }
 }
 
