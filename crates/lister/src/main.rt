@@ -9,6 +9,6 @@ fn main(rt: HostRuntime) -> io::Result<()> {
     let mut scratch = [0u8; 65536];
     let mut listing = [0u8; 65536];
     let n = cases::read_full(&mut rt.stdin(), &mut space)?;
-    let a = checker::check(&space[..n], &mut scratch, &mut listing);
-    output::print(&mut rt.stdout(), a, &listing)
+    let answer = checker::check(&space[..n], &mut scratch, &mut listing);
+    output::print(&mut rt.stdout(), answer, &listing)
 }

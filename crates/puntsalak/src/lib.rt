@@ -7,20 +7,21 @@ ghost use Rattle.claims.specs.Claim.{Claim};
 ghost use Rattle.verdict.specs.Verdict.{answer_of};
 ghost use Rattle.puntsalak.specs.Four.{four_of};
 
+use refusal::Refused;
 use verdict::Answer;
 
-// The four numbers of an answer.
-fn four(a: Answer) -> [u64; 4]
-    ensures { result ≡ four_of (answer_of a) }
+// The four numbers of an answer. A function and no `From`: Result and array are both of another crate.
+fn four(answer: Answer) -> [u64; 4]
+    ensures { result ≡ four_of (answer_of answer) }
 {
-    match a {
-        Answer::Accepted(errors, warnings, size) => [
+    match answer {
+        Ok(listed) => [
             0,
-            errors as u64,
-            warnings as u64,
-            size as u64,
+            listed.errors as u64,
+            listed.warnings as u64,
+            listed.size as u64,
         ],
-        Answer::Refused(number, place) => [number as u64, place as u64, 0, 0],
+        Err(Refused { refusal, place }) => [u64::from(u8::from(refusal)), place as u64, 0, 0],
     }
 }
 
@@ -30,6 +31,5 @@ pub fn puntsalak_check(tree: &[u8], scratch: &mut [u8], listing: &mut [u8], answ
     ensures cleared { scratch.new ≡ scratch_after scratch.old }
     ensures billed { (errors warnings size : ℕ) → answerTo tree.now (length scratch.old) (length listing.old) ≡ accepted errors warnings size → Claim tree.now listing.new size }
 {
-    let a = checker::check(tree, scratch, listing);
-    *answer = four(a);
+    *answer = four(checker::check(tree, scratch, listing));
 }

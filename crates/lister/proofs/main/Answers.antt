@@ -4,4 +4,4 @@ use Rattle.lister.proofs.main.Goals as goal
 
 -- an accepted listing has room in its buffer
 pub print-requires : goal.print-requires
-print-requires c errors warnings size h = omega (arith, accepted-room _ _ _ _ _ _ (sym c.check-a.ensures.answers ∙ h), c.check-a.auto.listing)
+print-requires c errors warnings size h = omega (arith, accepted-room _ _ _ _ _ _ (sym c.check-answer.ensures.answers ∙ h), c.check-answer.auto.listing)
