@@ -1,9 +1,9 @@
 -- Classical declarations. Assumes nothing.
 use Prim.Native.Nat.{ℕ, zero, suc, ◌+◌, ◌-◌, ◌<◌}
 use mathlib.Core.Path.{◌≡◌, refl, sym, ◌∙◌}
-use mathlib.Core.List.{List, [], ◌∷◌, ◌++◌, append_assoc}
+use mathlib.Core.List.{List, ◌++◌, append_assoc}
 use mathlib.Core.Option.{Option, none, some}
-use mathlib.Core.Bool.{Bool, true, false, not, ◌&&◌}
+use mathlib.Core.Bool.{not}
 use native.Mathlib.Omega.{arith}
 use lib.ListN.{length, get_or}
 use lib.Dec.{eqb}
@@ -21,9 +21,9 @@ use Rattle.sema.specs.Messages
 use Rattle.sema.specs.Messages.{error}
 use Rattle.sema.specs.Symbols.{Symbols, FunctionSig, Table, declare_says, after}
 use Rattle.sema.specs.Marks.{effect}
-use Rattle.sema.specs.Operands.{is_some, unless}
+use Rattle.sema.specs.Operands.{is_some}
 use Rattle.sema.specs.Exprs.{mismatch}
-use Rattle.sema.specs.Stmts.{SemaContext, is_const, is_input, init_says, classical_says, analyze_stmt}
+use Rattle.sema.specs.Stmts.{SemaContext, init_says, classical_says, analyze_stmt}
 use Rattle.accepted.specs.Cases.{blank}
 use Rattle.accepted.specs.Parts.{value_or, next_is, value_is}
 use Rattle.accepted.specs.Bodies.{stmt_in}
@@ -37,8 +37,6 @@ use Rattle.context.specs.declared.State.{State}
 use Rattle.context.specs.Sink.{SinkFits}
 use Rattle.context.specs.Values.{typed_of}
 use Rattle.context.specs.View.{span_at, type_of, scopes_of, functions_of}
-use Rattle.lines.specs.declared.Message.{Message}
-use Rattle.lines.specs.Values.{diagnostic_of, error_of}
 use Rattle.tables.specs.Laws.{few-after}
 use Rattle.promises.specs.Emitted.{Emitted, emitted_then, emitted_as}
 use Rattle.promises.specs.Typings.{TypingOf}

@@ -1,31 +1,26 @@
 -- What the reports say, for each way out of them. Assumes nothing.
-use Prim.Native.Nat.{ℕ, zero, suc, ◌<◌}
-use mathlib.Core.Path.{◌≡◌, refl, sym, ◌∙◌}
-use mathlib.Core.List.{List, [], ◌∷◌}
-use mathlib.Core.Bool.{Bool, true, false, ◌&&◌, ◌||◌, or-true}
-use native.Mathlib.Omega.{arith}
+use Prim.Native.Nat.{ℕ}
+use mathlib.Core.Path.{◌≡◌, sym}
+use mathlib.Core.List.{List, []}
+use mathlib.Core.Bool.{◌&&◌, ◌||◌}
 use Rattle.span.specs.declared.Span.{Span}
 use Rattle.ast.specs.Tree.{Text}
 use Rattle.ast.specs.declared.ClassicalType.{ClassicalType}
-use Rattle.context.specs.declared.Symbol.{Symbol as SymbolValue}
 use Rattle.std.specs.Prelude.{Option as Maybe, Some, None}
 use Rattle.types.specs.Types.{assignable_to, numeric}
 use Rattle.sema.specs.Messages
 use Rattle.sema.specs.Messages.{Diagnostic, error}
 use Rattle.sema.specs.Operands.{unless}
 use Rattle.sema.specs.Exprs.{expr_span, mismatch}
-use Rattle.sema.specs.Stmts.{is_assign, assign_says, target_says}
+use Rattle.sema.specs.Stmts.{is_assign, assign_says}
 use Rattle.ast.specs.declared.AssignOp.{AssignOp}
 use Rattle.context.specs.declared.Sink.{Sink}
-use Rattle.context.specs.declared.SymbolKind.{SymbolKind}
-use Rattle.context.specs.declared.Symbol.{Symbol}
 use Rattle.context.specs.Sink.{SinkFits}
-use Rattle.context.specs.Values.{kind_of, typed_of, found_of}
+use Rattle.context.specs.Values.{typed_of}
 use Rattle.lines.specs.declared.Message.{Message}
-use Rattle.lines.specs.declared.Note.{Note}
-use Rattle.lines.specs.Values.{diagnostic_of, error_of, error_with_note_of, name_in, Below}
+use Rattle.lines.specs.Values.{diagnostic_of, error_of}
 use Rattle.promises.specs.Emitted.{Emitted, emitted-none, emitted_then, emitted_as}
-use Rattle.declarations.specs.Says.{declared_says, spanned}
+use Rattle.declarations.specs.Says.{spanned}
 
 module _ {t : List Text} {s : Sink} {o : List ℕ} where
   -- nothing is said

@@ -24,13 +24,9 @@ use Rattle.accepted.specs.Exprs.{expr_in, expr-end}
 use Rattle.accepted.specs.Stmts.{assignment-named, assignment-value, assignment-inside, assignment_is}
 use Rattle.context.specs.declared.Sink.{Sink}
 use Rattle.context.specs.declared.Typing.{Typing}
-use Rattle.context.specs.declared.Symbol.{Symbol as SymbolValue}
-use Rattle.std.specs.Prelude.{Option as Maybe, Some, None}
 use Rattle.context.specs.declared.State.{State}
-use Rattle.context.specs.Values.{kind_of, typed_of, found_of}
+use Rattle.context.specs.Values.{typed_of}
 use Rattle.context.specs.View.{TextsAt, number_at, span_at, scopes_of, functions_of}
-use Rattle.lines.specs.declared.Message.{Message}
-use Rattle.lines.specs.Values.{diagnostic_of, error_of}
 use Rattle.promises.specs.Emitted.{Emitted, emitted_then, emitted_as}
 use Rattle.promises.specs.Typings.{TypingOf}
 use Rattle.promises.specs.Walks.{state_of, Ready, StmtWalked}
@@ -38,15 +34,6 @@ use Rattle.promises.specs.WalkLaws.{marks-kept, context_is, same-walked}
 use Rattle.declarations.specs.Says.{spanned, target_by}
 use Rattle.declarations.specs.Checked.{Valued}
 use Rattle.accepted.specs.Spans.{span-here, span-room}
-
-module _ {t : List Text} {s : Sink} {o : List ℕ} {r : Sink} {o' : List ℕ} where
-  pub target_none : (ss : Symbols) (f : Maybe SymbolValue) (x : ℕ) (op : AssignOp) (v sp : Span) (ty : Option ClassicalType) → found_of f ≡ get ss x → f ≡ None → Emitted t (diagnostic_of (error_of (Message.NotDeclared x) sp) ∷ []) s o r o' → Emitted t (target_by (get ss x) x op (spanned v) sp ty) s o r o'
-  unfolding target_by
-  target_none ss f x op v sp ty e n h = emitted_as h (rw (← e, n))
-
-  pub target_some : (ss : Symbols) (f : Maybe SymbolValue) (sym : SymbolValue) (x : ℕ) (op : AssignOp) (v sp : Span) (ty : Option ClassicalType) → found_of f ≡ get ss x → f ≡ Some sym → Emitted t (target_says x op (spanned v) sp ty (kind_of sym.kind)) s o r o' → Emitted t (target_by (get ss x) x op (spanned v) sp ty) s o r o'
-  unfolding target_by
-  target_some ss f sym x op v sp ty e n h = emitted_as h (rw (← e, n))
 
 -- of the value only its span matters
 assign_span : (x : ℕ) (op : AssignOp) (a b : Expr) (sp : Span) (expected : ClassicalType) (ty : Option ClassicalType) → expr_span a ≡ expr_span b → assign_says x op a sp expected ty ≡ assign_says x op b sp expected ty
@@ -84,13 +71,13 @@ module _ {t : List Text} {ss : Symbols} {fs : Table FunctionSig} (left : ℕ) (t
   pub checked-type : typed_of r.typed ≡ (check_expr ss fs (value_or blank (expr t left tree at))).type
   checked-type = p.type ∙ given_ok blank none (λ e. (check_expr ss fs e).type) _ h
 
-  pub checked-span : span_at tree (r.next - 8) ≡ expr_span (value_or blank (expr t left tree at))
+  checked-span : span_at tree (r.next - 8) ≡ expr_span (value_or blank (expr t left tree at))
   checked-span = span-here t left tree at h _ p.next
 
-  pub checked-long : 8 ≤ r.next
+  checked-long : 8 ≤ r.next
   checked-long = span-room t left tree at h _ p.next
 
-  pub checked-inside : r.next ≤ length tree
+  checked-inside : r.next ≤ length tree
   checked-inside = rw p.next (expr-end t left tree at h)
 
   -- and the type that is expected
@@ -123,11 +110,11 @@ module _ (t : List Text) (left : ℕ) (s : List ℕ) (at : ℕ) (h : IsOk (stmt 
   pub assignment-name-below : number_at 2 s (at + 1) < length t
   assignment-name-below = (assignment-named t left s at h b).below
 
-pub ruleset assignments = (assignment-value_in, assignment-name-below, assignment-value, assignment-inside)
-
 module _ (t : List Text) (s : List ℕ) (at : ℕ) (h : IsOk (held t s at)) (n : ℕ) (e : n ≡ next_of (held t s at)) where
   pub value-long : 8 ≤ n
   value-long = span-room t _ s at h n e
 
   pub value-inside : n ≤ length s
   value-inside = rw e (expr-end t _ s at h)
+
+pub ruleset assignments = (assignment-value_in, assignment-name-below, assignment-value, assignment-inside, value-long, value-inside)
