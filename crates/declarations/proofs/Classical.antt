@@ -1,13 +1,14 @@
 -- Classical declarations. Assumes nothing.
-use Prim.Native.Nat.{ℕ, zero, suc, ◌+◌, ◌-◌}
+use Prim.Native.Nat.{ℕ, zero, suc, ◌+◌, ◌-◌, ◌<◌}
 use mathlib.Core.Path.{◌≡◌, refl, sym, ◌∙◌}
-use mathlib.Core.List.{List, [], ◌∷◌, ◌++◌, append_assoc}
+use mathlib.Core.List.{List, ◌++◌, append_assoc}
 use mathlib.Core.Option.{Option, none, some}
-use mathlib.Core.Bool.{Bool, true, false, not, ◌&&◌}
+use mathlib.Core.Bool.{not}
 use native.Mathlib.Omega.{arith}
-use lib.ListN.{get_or}
+use lib.ListN.{length, get_or}
 use lib.Dec.{eqb}
 use borrow.Author.Tests.{ne_eqb}
+use Rattle.std.specs.Prelude.{Option as Maybe}
 use Rattle.span.specs.declared.Span.{Span}
 use Rattle.ast.specs.Tree.{Text, Expr}
 use Rattle.ast.specs.declared.ClassicalType.{ClassicalType}
@@ -20,14 +21,15 @@ use Rattle.sema.specs.Messages
 use Rattle.sema.specs.Messages.{error}
 use Rattle.sema.specs.Symbols.{Symbols, FunctionSig, Table, declare_says, after}
 use Rattle.sema.specs.Marks.{effect}
-use Rattle.sema.specs.Operands.{is_some, unless}
+use Rattle.sema.specs.Operands.{is_some}
 use Rattle.sema.specs.Exprs.{mismatch}
-use Rattle.sema.specs.Stmts.{SemaContext, is_const, is_input, init_says, classical_says, analyze_stmt}
+use Rattle.sema.specs.Stmts.{SemaContext, init_says, classical_says, analyze_stmt}
 use Rattle.accepted.specs.Cases.{blank}
 use Rattle.accepted.specs.Parts.{value_or, next_is, value_is}
-use Rattle.accepted.specs.Fields.{one_below, option-none, option-held, option-some}
-use Rattle.accepted.specs.Operands.{some_qualifier_is}
-use Rattle.accepted.specs.Stmts.{classical_decl_is}
+use Rattle.accepted.specs.Bodies.{stmt_in}
+use Rattle.accepted.specs.Fields.{option_in, option-none, option-held, option-some}
+use Rattle.accepted.specs.Stmts.{classical_decl-qualifier, classical_decl_init, classical_decl_is}
+use Rattle.scopes.specs.Laws.{classical-named_in}
 use Rattle.context.specs.declared.Sink.{Sink}
 use Rattle.context.specs.declared.Typing.{Typing}
 use Rattle.context.specs.declared.Symbol.{Symbol as SymbolValue}
@@ -35,71 +37,17 @@ use Rattle.context.specs.declared.State.{State}
 use Rattle.context.specs.Sink.{SinkFits}
 use Rattle.context.specs.Values.{typed_of}
 use Rattle.context.specs.View.{span_at, type_of, scopes_of, functions_of}
-use Rattle.lines.specs.declared.Message.{Message}
-use Rattle.lines.specs.Values.{diagnostic_of, error_of}
 use Rattle.tables.specs.Laws.{few-after}
 use Rattle.promises.specs.Emitted.{Emitted, emitted_then, emitted_as}
 use Rattle.promises.specs.Typings.{TypingOf}
 use Rattle.promises.specs.Walks.{state_of, Ready, StmtWalked}
 use Rattle.promises.specs.WalkLaws.{marks-kept, context_is}
-use Rattle.declarations.specs.Says.{qualifier_code, code_says, classical_rest}
+use Rattle.scopes.specs.Scopes.{qualified_of}
+use Rattle.declarations.specs.Says.{qualifier_says, classical_rest}
 use Rattle.declarations.specs.Checked.{Declared, init_at}
 use Rattle.declarations.proofs.Sayings.{silent}
 use Rattle.declarations.proofs.Declares.{Declares, Spans, changed_walked, after_is, name_is, span_is, becomes_as}
-use Rattle.declarations.proofs.Targets.{checked-mismatch}
-
--- a qualifier by its bytes
-module _ (s : List ℕ) (at : ℕ) (h : IsOk (option qualifier s at)) where
-  pub qualifier-none : get_or s at 0 ≡ 0 → 0 ≡ qualifier_code (value_or none (option qualifier s at))
-  qualifier-none e = rw (value_is (option-none s at qualifier h e) none)
-
-  pub qualifier-const : (get_or s at 0 ≡ 0 → ⊥) → get_or s (at + 1) 0 ≡ 0 → 1 ≡ qualifier_code (value_or none (option qualifier s at))
-  qualifier-const z e = rw (value_is (some_qualifier_is s at h z) none, e)
-
-  pub qualifier_input : (get_or s at 0 ≡ 0 → ⊥) → get_or s (at + 1) 0 ≡ 1 → 2 ≡ qualifier_code (value_or none (option qualifier s at))
-  qualifier_input z e = rw (value_is (some_qualifier_is s at h z) none, e)
-
-  pub qualifier_output : (get_or s at 0 ≡ 0 → ⊥) → (get_or s (at + 1) 0 ≡ 0 → ⊥) → (get_or s (at + 1) 0 ≡ 1 → ⊥) → 3 ≡ qualifier_code (value_or none (option qualifier s at))
-  unfolding qualifier
-  qualifier_output z a b =
-      let l = one_below s (at + 1) _ _ (option-held s at qualifier h z) in
-      let e : get_or s (at + 1) 0 ≡ 2 = omega (arith, l, a, b) in
-      rw (value_is (some_qualifier_is s at h z) none, e)
-
--- what is said of it
-module _ {t : List Text} {s : Sink} {o : List ℕ} where
-  pub const-given : (q i x : ℕ) (sp : Span) → q ≡ 1 → (i ≡ 0 → ⊥) → SinkFits s → Emitted t (code_says q i x sp) s o s o
-  unfolding code_says
-  const-given q i x sp e z h = silent (rw (e, ne_eqb i 0 z)) h
-
-  pub input_absent : (q i x : ℕ) (sp : Span) → q ≡ 2 → i ≡ 0 → SinkFits s → Emitted t (code_says q i x sp) s o s o
-  unfolding code_says
-  input_absent q i x sp e z h = silent (rw (e, z)) h
-
-  pub neither : (q i x : ℕ) (sp : Span) → (q ≡ 1 → ⊥) → (q ≡ 2 → ⊥) → SinkFits s → Emitted t (code_says q i x sp) s o s o
-  unfolding code_says
-  neither q i x sp a b h = silent (rw (ne_eqb q 1 a, ne_eqb q 2 b)) h
-
-  module _ {r : Sink} {o' : List ℕ} where
-    pub const_absent : (q i x : ℕ) (sp : Span) → q ≡ 1 → i ≡ 0 → Emitted t (diagnostic_of (error_of (Message.ConstWithoutInit x) sp) ∷ []) s o r o' → Emitted t (code_says q i x sp) s o r o'
-    unfolding code_says
-    const_absent q i x sp e z h = emitted_as h (rw (e, z))
-
-    pub input_given : (q i x : ℕ) (sp : Span) → q ≡ 2 → (i ≡ 0 → ⊥) → Emitted t (diagnostic_of (error_of (Message.InputWithInit x) sp) ∷ []) s o r o' → Emitted t (code_says q i x sp) s o r o'
-    unfolding code_says
-    input_given q i x sp e z h = emitted_as h (rw (e, ne_eqb i 0 z))
-
--- the same by the qualifier itself
-code_says_lem : (q : Option ClassicalQualifier) (i x : ℕ) (sp : Span) (init : Option Expr) → is_some init ≡ not (eqb i 0) → code_says (qualifier_code q) i x sp ≡ unless (not (is_const q && not (is_some init))) (error (Messages.const_without_init x) sp) ++ unless (not (is_input q && is_some init)) (error (Messages.input_with_init x) sp)
-unfolding code_says
-code_says_lem q i x sp init e = rw e (by q (eqb i 0))
-  where
-    by : (q : Option ClassicalQualifier) (b : Bool) → unless (not (eqb (qualifier_code q) 1 && b)) (error (Messages.const_without_init x) sp) ++ unless (not (eqb (qualifier_code q) 2 && not b)) (error (Messages.input_with_init x) sp) ≡ unless (not (is_const q && not (not b))) (error (Messages.const_without_init x) sp) ++ unless (not (is_input q && not b)) (error (Messages.input_with_init x) sp)
-    by none b = refl
-    by (some ClassicalQualifier.Const) true = refl
-    by (some ClassicalQualifier.Const) false = refl
-    by (some ClassicalQualifier.Input) b = refl
-    by (some ClassicalQualifier.Output) b = refl
+use Rattle.declarations.proofs.Targets.{value-long, value-inside, checked-mismatch}
 
 -- an initializer by its byte
 module _ (tree : List ℕ) (at : ℕ) (h : IsOk (option (held (texts_of tree)) tree at)) where
@@ -126,19 +74,15 @@ module _ (tree : List ℕ) (at : ℕ) (h : IsOk (option (held (texts_of tree)) t
     unfolding init_says
     init_checked ty x z p m = emitted_as (checked-mismatch _ _ _ (option-held tree at (held (texts_of tree)) h z) p (λ actual. Messages.cannot_initialize ty x actual) ty m) (rw (init_some z))
 
-  pub rest-said : (ss : Symbols) (fs : Table FunctionSig) {s : Sink} {o : List ℕ} {s₁ : Sink} {o₁ : List ℕ} {r : Sink} {o' : List ℕ} (code : ℕ) (q : Option ClassicalQualifier) (ty : ClassicalType) (x : ℕ) (sp : Span) → code ≡ qualifier_code q
-      → Emitted (texts_of tree) (code_says code (get_or tree at 0) x sp) s o s₁ o₁ → Emitted (texts_of tree) (init_says ss fs ty x (init_at tree at)) s₁ o₁ r o' → Emitted (texts_of tree) (classical_rest ss fs q ty x (init_at tree at) sp) s o r o'
-  unfolding classical_rest
-  rest-said ss fs code q ty x sp e a b = emitted_as (emitted_then a b) (rw (e, code_says_lem q (get_or tree at 0) x sp (init_at tree at) init_is, append_assoc))
-
-pub rest_at : (tree : List ℕ) (at k : ℕ) (ss : Symbols) (fs : Table FunctionSig) {s : Sink} {o : List ℕ} {s₁ : Sink} {o₁ : List ℕ} {r : Sink} {o' : List ℕ} (code : ℕ) (ty : ClassicalType) (x : ℕ) (sp : Span) → k ≡ next_of (option qualifier tree at) → ty ≡ type_of (get_or tree k 0) → IsOk (option (held (texts_of tree)) tree (k + 3)) → code ≡ qualifier_code (value_or none (option qualifier tree at))
-    → Emitted (texts_of tree) (code_says code (get_or tree (k + 3) 0) x sp) s o s₁ o₁ → Emitted (texts_of tree) (init_says ss fs ty x (init_at tree (k + 3))) s₁ o₁ r o'
+pub rest_at : (tree : List ℕ) (at k : ℕ) (ss : Symbols) (fs : Table FunctionSig) {s : Sink} {o : List ℕ} {s₁ : Sink} {o₁ : List ℕ} {r : Sink} {o' : List ℕ} (q : Maybe ClassicalQualifier) (ty : ClassicalType) (x : ℕ) (sp : Span) → k ≡ next_of (option qualifier tree at) → ty ≡ type_of (get_or tree k 0) → IsOk (option (held (texts_of tree)) tree (k + 3)) → qualified_of q ≡ value_or none (option qualifier tree at)
+    → Emitted (texts_of tree) (qualifier_says (qualified_of q) (not (eqb (get_or tree (k + 3) 0) 0)) x sp) s o s₁ o₁ → Emitted (texts_of tree) (init_says ss fs ty x (init_at tree (k + 3))) s₁ o₁ r o'
     → Emitted (texts_of tree) (classical_rest ss fs (value_or none (option qualifier tree at)) (type_of (get_or tree (next_of (option qualifier tree at)) 0)) x (init_at tree (next_of (option qualifier tree at) + 3)) sp) s o r o'
-rest_at tree at k ss fs code ty x sp e f h c a b = emitted_as (rest-said tree (k + 3) h ss fs code (value_or none (option qualifier tree at)) ty x sp c a b) (rw (f, e))
+unfolding classical_rest
+rest_at tree at k ss fs q ty x sp e f h c a b = emitted_as (emitted_then a b) (rw (c, ← init_is tree (k + 3) h, f, e))
 
 classical_says_lem : (c : SemaContext) (q : Option ClassicalQualifier) (ty : ClassicalType) (init : Option Expr) {x y : ℕ} {sp sq : Span} {ss ss' : Symbols} {fs : Table FunctionSig} → x ≡ y → sp ≡ sq → ss ≡ ss' → fs ≡ c.functions → declare_says c.symbols x sp ++ classical_rest ss fs q ty x init sp ≡ classical_says c q ty y init sq ss'
-unfolding classical_says classical_rest
-classical_says_lem c q ty init a b d e = rw (a, b, d, e)
+unfolding classical_says classical_rest qualifier_says
+classical_says_lem c q ty init a b d e = rw (a, b, d, e, append_assoc)
 
 module _ (tree index : List ℕ) (keys left : ℕ) (st : State) (h : IsOk (stmt (texts_of tree) left tree st.at)) (b : get_or tree st.at 0 ≡ 3) {s o : List ℕ} {s₁ : Sink} {o₁ : List ℕ} {r : Sink} {s' o' : List ℕ} (x : ℕ) (symbol : SymbolValue) (ready : Ready tree s st)
     (end : ℕ) (next : end ≡ next_of (stmt (texts_of tree) left tree st.at))
@@ -151,3 +95,12 @@ module _ (tree index : List ℕ) (keys left : ℕ) (st : State) (h : IsOk (stmt 
       let is = classical_decl_is (texts_of tree) left tree st.at h b _ refl _ refl in
       changed_walked tree index keys left st is end (next ∙ next_is is) ready (context_is refl refl refl (marks-kept _ _)) (becomes_as (after_is x symbol declares spanned is _) d.becomes) d.below (few-after d.becomes ready.few)
       (emitted_as (emitted_then d.emitted m) (classical_says_lem _ _ _ _ (name_is x symbol declares spanned is _ _ _ _ refl) (span_is x symbol declares spanned is) (d.becomes.scopes_are ∙ after_is x symbol declares spanned is _) d.becomes.functions_are))
+
+-- what is known of the parts of a classical declaration where they are read
+pub classical-init_in : (t : List Text) (left : ℕ) (s : List ℕ) (at : ℕ) → IsOk (stmt t left s at) → get_or s at 0 ≡ 3 → (k : ℕ) → k ≡ next_of (option qualifier s (at + 1)) → k + 3 < length s
+classical-init_in t left s at h b k e = option_in s (k + 3) (held t) (classical_decl_init t left s at h b k e)
+
+pub ruleset classical = (stmt_in, classical_decl-qualifier, classical-named_in, classical_decl_init, classical-init_in)
+
+-- and of an initializer
+pub ruleset initializers = (option_in, option-held, value-long, value-inside)

@@ -1,11 +1,11 @@
 -- A statement that changes the scratch and leaves the marks; declarations of qubits and bits. Assumes nothing.
-use Prim.Native.Nat.{ℕ, zero, suc, ◌-◌, ◌≤◌, ◌<◌}
+use Prim.Native.Nat.{ℕ, zero, suc, ◌-◌, ◌<◌}
 use mathlib.Core.Path.{◌≡◌, refl, sym, ap, ◌∙◌}
 use mathlib.Core.List.{List, [], ◌∷◌}
 use mathlib.Core.Option.{Option, none, some}
 use mathlib.Core.Bool.{Bool, true, false, cond}
 use native.Mathlib.Omega.{arith}
-use lib.ListN.{length, get_or}
+use lib.ListN.{get_or}
 use lib.Dec.{eqb}
 use borrow.Author.Tests.{eqb-true, eq-eqb}
 use Rattle.span.specs.declared.Span.{Span}
@@ -21,7 +21,7 @@ use Rattle.accepted.specs.Parts.{next_is, given_is}
 use Rattle.accepted.specs.Stmts.{qubit_decl_is, bit_decl_is}
 use Rattle.context.specs.declared.Sink.{Sink}
 use Rattle.context.specs.declared.Symbol.{Symbol as SymbolValue}
-use Rattle.std.specs.Prelude.{Option as Maybe, Some, None}
+use Rattle.std.specs.Prelude.{Option as Maybe}
 use Rattle.context.specs.declared.State.{State}
 use Rattle.context.specs.Values.{number_of, kind_of, found_of}
 use Rattle.context.specs.View.{keys_in, scopes_of, gates_of, functions_of, marks_of, context_of, stmt_span}
@@ -98,10 +98,6 @@ module _ {X : Ans Stmt} (x : ℕ) (symbol : SymbolValue) (declares : Declares X 
   -- and says what the name says
   pub says_is : (ss : Symbols) (y : ℕ) (l : Messages.SymbolKind) (n : Option ℕ) (sq : Span) → after [] S ≡ declare [] y l n sq → declare_says ss x symbol.decl_span ≡ declare_says ss y (stmt_span S)
   says_is ss y l n sq e = rw (name_is y l n sq e, span_is)
-
--- a scratch of the same length has room too
-pub room-kept : {s s' : List ℕ} {depth : ℕ} {ss : Symbols} {gs : Table GateSig} {fs : Table FunctionSig} → Becomes s s' depth ss gs fs → 65536 ≤ length s → 65536 ≤ length s'
-room-kept b l = rw b.same_length l
 
 pub functions_as : {s s' : List ℕ} {depth : ℕ} {ss : Symbols} {gs : Table GateSig} {fs fs' : Table FunctionSig} → fs ≡ fs' → Becomes s s' depth ss gs fs → Becomes s s' depth ss gs fs'
 functions_as e b = rw (← e) b

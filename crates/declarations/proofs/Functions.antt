@@ -7,7 +7,7 @@ use native.Mathlib.Omega.{arith}
 use native.Mathlib.Numerals.{add-one}
 use lib.ListN.{length, get_or}
 use Rattle.span.specs.declared.Span.{Span}
-use Rattle.ast.specs.Tree.{TextNumber, Expr}
+use Rattle.ast.specs.Tree.{Text, TextNumber, Expr}
 use Rattle.ast.specs.declared.ClassicalType.{ClassicalType}
 use Rattle.tree.specs.Ans.{IsOk, next_of}
 use Rattle.tree.specs.Read.{vec}
@@ -20,7 +20,9 @@ use Rattle.sema.specs.Exprs.{mismatch}
 use Rattle.sema.specs.Stmts.{SemaContext, define_function, function_says, analyze_stmt}
 use Rattle.accepted.specs.Parts.{ok_is}
 use Rattle.accepted.specs.Fields.{counted_in, counted-few, counted_is}
-use Rattle.accepted.specs.Stmts.{function_def-named, function_def-params, function_def-body, function_def_is}
+use Rattle.accepted.specs.Stmts.{function_def-named, function_def-params, function_def-body, function_def-inside, function_def_is}
+use Rattle.accepted.specs.Exprs.{expr_in}
+use Rattle.accepted.specs.Bodies.{stmt-left}
 use Rattle.context.specs.declared.Sink.{Sink}
 use Rattle.context.specs.declared.Typing.{Typing}
 use Rattle.context.specs.declared.FunctionSig.{FunctionSig as FunctionValue}
@@ -168,3 +170,17 @@ function_walked tree index keys left st u {f = f} {s = s} ready a d b =
     let c = both l d b in
     changed_walked tree index keys left st a.is f.end refl ready refl c (λ x m. scopes_fewer s _ (9 - left) x c.scopes_are (omega arith)) (rw b.becomes.functions_are d.few)
     (emitted_as (emitted_then d.emitted b.emitted) (says_function _ _ _ _ _ _ (d.becomes (9 - left) l).scopes_are (d.becomes (9 - left) l).functions_are))
+
+-- what is known of the parts where they are read
+module _ (t : List Text) (left : ℕ) (s : List ℕ) (at : ℕ) (h : IsOk (stmt t left s at)) (b : get_or s at 0 ≡ 7) where
+  pub function-named_in : at + 3 ≤ length s
+  function-named_in = (function_def-named t left s at h b).inside
+
+  pub function-body_in : (k : ℕ) → k ≡ next_of (vec (param t) s (at + 3)) → k + 1 < length s
+  function-body_in k e = expr_in _ _ _ _ (function_def-body t left s at h b k e)
+
+pub ruleset functions = (function-named_in, function-body_in, function_def-params, function_def-body, function_def-inside)
+
+pub ruleset parameters = (params_in, params-few, params-inside)
+
+pub ruleset function_defs = (stmt-left, function-named_in)

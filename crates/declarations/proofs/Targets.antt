@@ -1,5 +1,5 @@
 -- Assignments. Assumes nothing.
-use Prim.Native.Nat.{ℕ, ◌+◌, ◌-◌, ◌≤◌}
+use Prim.Native.Nat.{ℕ, ◌+◌, ◌-◌, ◌≤◌, ◌<◌}
 use mathlib.Core.Path.{◌≡◌, refl, sym, ap, ◌∙◌}
 use mathlib.Core.List.{List, [], ◌∷◌, ◌++◌}
 use mathlib.Core.Option.{Option, none, some}
@@ -8,7 +8,7 @@ use Rattle.span.specs.declared.Span.{Span}
 use Rattle.ast.specs.Tree.{Text, Expr}
 use Rattle.ast.specs.declared.AssignOp.{AssignOp}
 use Rattle.ast.specs.declared.ClassicalType.{ClassicalType}
-use Rattle.tree.specs.Ans.{IsOk}
+use Rattle.tree.specs.Ans.{IsOk, next_of}
 use Rattle.tree.specs.Exprs.{expr}
 use Rattle.tree.specs.Stmts.{held, stmt}
 use Rattle.tree.specs.Decode.{texts_of}
@@ -20,32 +20,20 @@ use Rattle.sema.specs.Exprs.{expr_span, check_expr, mismatch}
 use Rattle.sema.specs.Stmts.{SemaContext, assign_says, target_says, assignment_says, analyze_stmt}
 use Rattle.accepted.specs.Cases.{assign_op_of, blank}
 use Rattle.accepted.specs.Parts.{value_or, given_ok}
-use Rattle.accepted.specs.Exprs.{expr-end}
-use Rattle.accepted.specs.Stmts.{assignment-value, assignment_is}
+use Rattle.accepted.specs.Exprs.{expr_in, expr-end}
+use Rattle.accepted.specs.Stmts.{assignment-named, assignment-value, assignment-inside, assignment_is}
 use Rattle.context.specs.declared.Sink.{Sink}
 use Rattle.context.specs.declared.Typing.{Typing}
-use Rattle.context.specs.declared.Symbol.{Symbol as SymbolValue}
-use Rattle.std.specs.Prelude.{Option as Maybe, Some, None}
 use Rattle.context.specs.declared.State.{State}
-use Rattle.context.specs.Values.{kind_of, typed_of, found_of}
-use Rattle.context.specs.View.{number_at, span_at, scopes_of, functions_of}
-use Rattle.lines.specs.declared.Message.{Message}
-use Rattle.lines.specs.Values.{diagnostic_of, error_of}
+use Rattle.context.specs.Values.{typed_of}
+use Rattle.context.specs.View.{TextsAt, number_at, span_at, scopes_of, functions_of}
 use Rattle.promises.specs.Emitted.{Emitted, emitted_then, emitted_as}
 use Rattle.promises.specs.Typings.{TypingOf}
 use Rattle.promises.specs.Walks.{state_of, Ready, StmtWalked}
 use Rattle.promises.specs.WalkLaws.{marks-kept, context_is, same-walked}
 use Rattle.declarations.specs.Says.{spanned, target_by}
+use Rattle.declarations.specs.Checked.{Valued}
 use Rattle.accepted.specs.Spans.{span-here, span-room}
-
-module _ {t : List Text} {s : Sink} {o : List ℕ} {r : Sink} {o' : List ℕ} where
-  pub target_none : (ss : Symbols) (f : Maybe SymbolValue) (x op : ℕ) (v sp : Span) (ty : Option ClassicalType) → found_of f ≡ get ss x → f ≡ None → Emitted t (diagnostic_of (error_of (Message.NotDeclared x) sp) ∷ []) s o r o' → Emitted t (target_by (get ss x) x (assign_op_of op) (spanned v) sp ty) s o r o'
-  unfolding target_by
-  target_none ss f x op v sp ty e n h = emitted_as h (rw (← e, n))
-
-  pub target_some : (ss : Symbols) (f : Maybe SymbolValue) (sym : SymbolValue) (x op : ℕ) (v sp : Span) (ty : Option ClassicalType) → found_of f ≡ get ss x → f ≡ Some sym → Emitted t (target_says x (assign_op_of op) (spanned v) sp ty (kind_of sym.kind)) s o r o' → Emitted t (target_by (get ss x) x (assign_op_of op) (spanned v) sp ty) s o r o'
-  unfolding target_by
-  target_some ss f sym x op v sp ty e n h = emitted_as h (rw (← e, n))
 
 -- of the value only its span matters
 assign_span : (x : ℕ) (op : AssignOp) (a b : Expr) (sp : Span) (expected : ClassicalType) (ty : Option ClassicalType) → expr_span a ≡ expr_span b → assign_says x op a sp expected ty ≡ assign_says x op b sp expected ty
@@ -83,13 +71,13 @@ module _ {t : List Text} {ss : Symbols} {fs : Table FunctionSig} (left : ℕ) (t
   pub checked-type : typed_of r.typed ≡ (check_expr ss fs (value_or blank (expr t left tree at))).type
   checked-type = p.type ∙ given_ok blank none (λ e. (check_expr ss fs e).type) _ h
 
-  pub checked-span : span_at tree (r.next - 8) ≡ expr_span (value_or blank (expr t left tree at))
+  checked-span : span_at tree (r.next - 8) ≡ expr_span (value_or blank (expr t left tree at))
   checked-span = span-here t left tree at h _ p.next
 
-  pub checked-long : 8 ≤ r.next
+  checked-long : 8 ≤ r.next
   checked-long = span-room t left tree at h _ p.next
 
-  pub checked-inside : r.next ≤ length tree
+  checked-inside : r.next ≤ length tree
   checked-inside = rw p.next (expr-end t left tree at h)
 
   -- and the type that is expected
@@ -97,15 +85,36 @@ module _ {t : List Text} {ss : Symbols} {fs : Table FunctionSig} (left : ℕ) (t
       → Emitted t ((check_expr ss fs (value_or blank (expr t left tree at))).says ++ mismatch (λ actual. error (m actual) (expr_span (value_or blank (expr t left tree at)))) expected (check_expr ss fs (value_or blank (expr t left tree at))).type) s o q o''
   checked-mismatch m expected e = emitted_then checked-says (emitted_as e (rw (checked-span, checked-type)))
 
+-- such a value beside a name
+pub valued : {ss : Symbols} {fs : Table FunctionSig} {tree index : List ℕ} {x : ℕ} (left at : ℕ) {s : Sink} {o : List ℕ} {r : Typing} {o' : List ℕ} → TextsAt tree index → x < length (texts_of tree) → IsOk (expr (texts_of tree) left tree at) → TypingOf (texts_of tree) ss fs (expr (texts_of tree) left tree at) s o r o' → Valued tree index x r
+valued left at t n h p = record { texts = t; named = n; long = checked-long _ _ _ h p; inside = checked-inside _ _ _ h p; fits = p.emitted.fits }
+
 module _ (tree index : List ℕ) (keys left : ℕ) (st : State) (h : IsOk (stmt (texts_of tree) left tree st.at)) (b : get_or tree st.at 0 ≡ 4) where
-  pub assignment-walked : {s o : List ℕ} {t : Typing} {o' : List ℕ} {r : Sink} {o'' : List ℕ} (x : ℕ) (sp : Span) → Ready tree s st → TypingOf (texts_of tree) (scopes_of s (9 - left)) (functions_of s) (held (texts_of tree) tree (st.at + 4)) st.sink o t o'
-      → x ≡ number_at 2 tree (st.at + 1) → sp ≡ span_at tree t.next
-      → Emitted (texts_of tree) (target_by (get (scopes_of s (9 - left)) x) x (assign_op_of (get_or tree (st.at + 3) 0)) (spanned (span_at tree (t.next - 8))) sp (typed_of t.typed)) t.sink o' r o''
+  pub assignment-walked : {s o : List ℕ} {t : Typing} {o' : List ℕ} {r : Sink} {o'' : List ℕ} (x : ℕ) (op : AssignOp) (sp : Span) → Ready tree s st → TypingOf (texts_of tree) (scopes_of s (9 - left)) (functions_of s) (held (texts_of tree) tree (st.at + 4)) st.sink o t o'
+      → x ≡ number_at 2 tree (st.at + 1) → op ≡ assign_op_of (get_or tree (st.at + 3) 0) → sp ≡ span_at tree t.next
+      → Emitted (texts_of tree) (target_by (get (scopes_of s (9 - left)) x) x op (spanned (span_at tree (t.next - 8))) sp (typed_of t.typed)) t.sink o' r o''
       → StmtWalked tree index keys left st s o (state_of (t.next + 8) r st.marks) s o''
   unfolding analyze_stmt after effect expr_span
-  assignment-walked x sp ready p e f m =
+  assignment-walked x op sp ready p e g f m =
       let v = assignment-value (texts_of tree) left tree st.at h b in
       let is = assignment_is (texts_of tree) left tree st.at h b _ p.next in
       same-walked tree index keys left st is ready refl (context_is refl refl refl (sym (marks-kept _ _)))
-      (emitted_as (emitted_then (checked-says _ _ _ v p) (emitted_as m (rw (checked-type _ _ _ v p, e, f) (target_span _ _ _ _ _ _ _ (checked-span _ _ _ v p))))) (says_target _ _ _ _ _))
+      (emitted_as (emitted_then (checked-says _ _ _ v p) (emitted_as m (rw (checked-type _ _ _ v p, e, g, f) (target_span _ _ _ _ _ _ _ (checked-span _ _ _ v p))))) (says_target _ _ _ _ _))
       ready.placed
+
+-- what is known of the parts of an assignment where they are read, and of a value that was checked
+module _ (t : List Text) (left : ℕ) (s : List ℕ) (at : ℕ) (h : IsOk (stmt t left s at)) (b : get_or s at 0 ≡ 4) where
+  pub assignment-value_in : at + 4 < length s
+  assignment-value_in = expr_in _ _ _ _ (assignment-value t left s at h b)
+
+  pub assignment-name-below : number_at 2 s (at + 1) < length t
+  assignment-name-below = (assignment-named t left s at h b).below
+
+module _ (t : List Text) (s : List ℕ) (at : ℕ) (h : IsOk (held t s at)) (n : ℕ) (e : n ≡ next_of (held t s at)) where
+  pub value-long : 8 ≤ n
+  value-long = span-room t _ s at h n e
+
+  pub value-inside : n ≤ length s
+  value-inside = rw e (expr-end t _ s at h)
+
+pub ruleset assignments = (assignment-value_in, assignment-name-below, assignment-value, assignment-inside, value-long, value-inside)

@@ -13,6 +13,7 @@ use Rattle.accepted.specs.Cases.{blank}
 use Rattle.accepted.specs.Parts.{value_or}
 use Rattle.context.specs.declared.Sink.{Sink}
 use Rattle.context.specs.declared.Symbol.{Symbol}
+use Rattle.context.specs.declared.Typing.{Typing}
 use Rattle.context.specs.Sink.{SinkFits}
 use Rattle.context.specs.Values.{number_of, kind_of}
 use Rattle.context.specs.View.{TextsAt, scopes_of, gates_of, functions_of}
@@ -27,6 +28,14 @@ pub record Checkable (tree index scratch : List ℕ) (depth : ℕ) (s : Sink) : 
   pub room : 65536 ≤ length scratch
   pub deep : depth ≤ 9
   pub fits : SinkFits s
+
+-- a value that was checked and ends in the tree, and a name that a report on it gives
+pub record Valued (tree index : List ℕ) (x : ℕ) (t : Typing) : Type 0 where
+  pub texts : TextsAt tree index
+  pub named : x < length (texts_of tree)
+  pub long : 8 ≤ t.next
+  pub inside : t.next ≤ length tree
+  pub fits : SinkFits t.sink
 
 -- the scratch and the listing after a declaration
 pub record Declared (t : List Text) (depth x : ℕ) (symbol : Symbol) (s : Sink) (scratch o : List ℕ) (r : Sink) (scratch' o' : List ℕ) : Type 0 where

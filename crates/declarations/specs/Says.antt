@@ -1,20 +1,17 @@
 -- What the checks of this crate say, by parts of the analysis' definitions.
-use Rattle.std.specs.Prelude.{ℕ, List, [], ◌∷◌, ◌++◌, false, ◌&&◌, not, eqb}
+use Rattle.std.specs.Prelude.{List, [], ◌∷◌, ◌++◌, Bool, false, ◌&&◌, not}
 use Rattle.std.proofs.Math.Option.{Option, none, some}
 use Rattle.span.specs.declared.Span.{Span}
 use Rattle.ast.specs.Tree.{TextNumber, Expr}
 use Rattle.ast.specs.declared.ClassicalType.{ClassicalType}
 use Rattle.ast.specs.declared.ClassicalQualifier.{ClassicalQualifier}
 use Rattle.ast.specs.declared.AssignOp.{AssignOp}
-use Rattle.std.specs.Prelude.{Option as Maybe, Some, None}
 use Rattle.sema.specs.Messages
 use Rattle.sema.specs.Messages.{Diagnostic, error, error_with_note}
 use Rattle.sema.specs.Symbols.{Symbol, Symbols, FunctionSig, Table}
 use Rattle.sema.specs.Operands.{is_some, unless}
 use Rattle.sema.specs.Exprs.{expr_span, mismatch, check_expr}
 use Rattle.sema.specs.Stmts.{is_const, is_input, init_says, target_says}
-use Rattle.context.specs.declared.SymbolKind.{SymbolKind}
-use Rattle.lines.specs.declared.Message.{Message}
 
 -- what a declaration says where its scope had this symbol
 unfoldable pub declared_says : Option Symbol → TextNumber → Span → List Diagnostic
@@ -26,25 +23,15 @@ unfoldable pub defined_says : Option FunctionSig → TextNumber → Span → Lis
 defined_says none x sp = []
 defined_says (some prev) x sp = error_with_note (Messages.function_already_defined x) sp Messages.first_defined prev.decl_span ∷ []
 
--- a qualifier as a number
-abbrev pub qualifier_code : Option ClassicalQualifier → ℕ
-qualifier_code none = 0
-qualifier_code (some ClassicalQualifier.Const) = 1
-qualifier_code (some ClassicalQualifier.Input) = 2
-qualifier_code (some ClassicalQualifier.Output) = 3
-
--- what is said of a qualifier by its number, where the initializer's byte is i
-unfoldable pub code_says : ℕ → ℕ → TextNumber → Span → List Diagnostic
-code_says q i x sp =
-    unless (not (eqb q 1 && eqb i 0)) (error (Messages.const_without_init x) sp)
-    ++ unless (not (eqb q 2 && not (eqb i 0))) (error (Messages.input_with_init x) sp)
+-- what is said of a qualifier, where there is an initializer or not
+unfoldable pub qualifier_says : Option ClassicalQualifier → Bool → TextNumber → Span → List Diagnostic
+qualifier_says q init x sp =
+    unless (not (is_const q && not init)) (error (Messages.const_without_init x) sp)
+    ++ unless (not (is_input q && init)) (error (Messages.input_with_init x) sp)
 
 -- what is said of a classical declaration besides what its name says
 unfoldable pub classical_rest : Symbols → Table FunctionSig → Option ClassicalQualifier → ClassicalType → TextNumber → Option Expr → Span → List Diagnostic
-classical_rest ss fs q ty x init sp =
-    unless (not (is_const q && not (is_some init))) (error (Messages.const_without_init x) sp)
-    ++ (unless (not (is_input q && is_some init)) (error (Messages.input_with_init x) sp)
-    ++ init_says ss fs ty x init)
+classical_rest ss fs q ty x init sp = qualifier_says q (is_some init) x sp ++ init_says ss fs ty x init
 
 -- what is said of a function's body
 unfoldable pub body_says : Symbols → Table FunctionSig → TextNumber → ClassicalType → Expr → List Diagnostic
@@ -60,21 +47,3 @@ spanned sp = Expr.BoolLit false sp
 unfoldable pub target_by : Option Symbol → TextNumber → AssignOp → Expr → Span → Option ClassicalType → List Diagnostic
 target_by none x op value sp actual = error (Messages.not_declared x) sp ∷ []
 target_by (some sym) x op value sp actual = target_says x op value sp actual sym.kind
-
--- the type of a target that takes a value
-abbrev pub target_type : SymbolKind → Maybe ClassicalType
-target_type SymbolKind.Qubit = None
-target_type SymbolKind.Bit = None
-target_type (SymbolKind.Classical ty) = Some ty
-target_type (SymbolKind.Const ty) = None
-target_type SymbolKind.GateParam = None
-target_type SymbolKind.GateQubit = None
-
--- the message on a target that takes none
-abbrev pub refusal : SymbolKind → TextNumber → Message
-refusal SymbolKind.Qubit x = Message.NotAssignable x
-refusal SymbolKind.Bit x = Message.NotAssignable x
-refusal (SymbolKind.Classical ty) x = Message.NotAssignable x
-refusal (SymbolKind.Const ty) x = Message.AssignToConst x
-refusal SymbolKind.GateParam x = Message.NotAssignable x
-refusal SymbolKind.GateQubit x = Message.NotAssignable x

@@ -12,7 +12,6 @@ ghost use Rattle.tree.specs.Stmts.{qualifier, held, param, stmt};
 ghost use Rattle.tree.specs.Decode.{texts_of};
 ghost use Rattle.sema.specs.Symbols.{get};
 ghost use Rattle.sema.specs.Stmts.{init_says};
-ghost use Rattle.accepted.specs.Cases.{assign_op_of};
 ghost use Rattle.accepted.specs.Parts.{value_or};
 ghost use Rattle.context.specs.Sink.{SinkFits};
 ghost use Rattle.context.specs.Values.{typed_of};
@@ -21,39 +20,34 @@ ghost use Rattle.tables.specs.Tables.{FewParams};
 ghost use Rattle.promises.specs.Emitted.{Emitted};
 ghost use Rattle.promises.specs.Walks.{Passable, StmtPassed};
 ghost use Rattle.declarations.specs.Says.{classical_rest, spanned, target_by};
-ghost use Rattle.declarations.specs.Checked.{Checkable, Declared, init_at, Defined, BodyChecked};
+ghost use Rattle.declarations.specs.Checked.{Checkable, Valued, Declared, init_at, Defined, BodyChecked};
 
 use accepted::numbers::{span_at, u16_at};
 use accepted::parts::skip_qualifier;
 use ast::ClassicalType;
-use context::{After, Index, Sink, Symbol, Typing};
-use lines::Message;
-use parts::{Function, function_at, qualifier_at};
+use context::{After, Index, Sink};
+use lines::{Message, Note};
+use parts::{Assignment, Function, assign_op_at, function_at};
 use reports::{
-    check_kind, check_qualifier, check_return, check_value, report_declared, report_defined,
-    report_error,
+    check_kind, check_qualifier, check_type, report_declared, report_error, report_with_note,
 };
-use scopes::type_at;
-use span::Span;
-use text::wide;
+use scopes::{Declaration, qualifier_at, type_at};
 
-// Gives the name a symbol in the innermost scope; the first declaration stays.
+// Gives the name its symbol in the innermost scope; the first declaration stays.
 fn declare(
     tree: &[u8],
     index: &Index,
     scratch: &mut [u8],
     out: &mut [u8],
     depth: usize,
-    x: usize,
-    symbol: Symbol,
+    d: Declaration,
     sink: Sink,
 ) -> Sink
-    requires { Checkable tree.now index.now scratch.old depth sink × (0 < depth) × (x < length (texts_of tree.now)) }
-    ensures { Declared (texts_of tree.now) depth x symbol sink scratch.old out.old result scratch.new out.new }
+    requires { Checkable tree.now index.now scratch.old depth sink × (0 < depth) × (d.name < length (texts_of tree.now)) }
+    ensures { Declared (texts_of tree.now) depth d.name d.symbol sink scratch.old out.old result scratch.new out.new }
 {
-    let span = symbol.decl_span;
-    let found = scopes::declare(scratch, depth, x, symbol);
-    report_declared(tree, index, out, found, x, span, sink)
+    let found = scopes::declare(scratch, depth, d.name, d.symbol);
+    report_declared(tree, index, out, found, d.name, d.symbol.decl_span, sink)
 }
 
 // The declaration of a qubit or a bit.
@@ -70,14 +64,14 @@ fn register(
     ensures { StmtPassed tree.now index.now left at sink scratch.old out.old result scratch.new out.new }
 {
     let d = scopes::declaration_at(tree, at, left);
-    let symbol = d.symbol;
-    let s = declare(tree, index, scratch, out, 9 - left, d.name, symbol, sink);
+    let s = declare(tree, index, scratch, out, 9 - left, d, sink);
     After {
         next: d.end,
         sink: s,
     }
 }
 
+// Each case of a statement has its function, as document 01 asks: a qubit's declaration and a bit's do the same.
 pub fn qubit_decl(
     tree: &[u8],
     index: &Index,
@@ -109,6 +103,7 @@ pub fn bit_decl(
 }
 
 // The initializer of x behind its byte, in the scopes after the declaration.
+#[tactic(auto, using(crate::proofs::Classical::initializers))]
 fn check_init(
     tree: &[u8],
     index: &Index,
@@ -127,39 +122,34 @@ fn check_init(
         return sink;
     }
     let t = typing::check_expr(tree, index, scratch, out, depth, at + 1, 32, sink);
-    check_value(tree, index, out, x, ty, t)
+    let Some(actual) = t.typed else {
+        return t.sink;
+    };
+    let message = Message::CannotInitialize(ty, x, actual);
+    check_type(tree, index, out, ty, actual, message, t.next, t.sink)
 }
 
-// What is said of a classical declaration at `at` after its name: of its qualifier and of its initializer.
+// What is said of the classical declaration d at `at` after its name: of its qualifier and of its initializer.
+#[tactic(auto, using(crate::proofs::Classical::classical))]
 fn check_classical(
     tree: &[u8],
     index: &Index,
     scratch: &[u8],
     out: &mut [u8],
-    depth: usize,
     left: usize,
     at: usize,
-    x: usize,
-    span: Span,
+    d: Declaration,
     sink: Sink,
 ) -> Sink
-    requires { Checkable tree.now index.now scratch.now depth sink × (x < length (texts_of tree.now)) × IsOk (stmt (texts_of tree.now) left tree.now at) × (get_or tree.now at 0 ≡ 3) }
-    ensures { Emitted (texts_of tree.now) (classical_rest (scopes_of scratch.now depth) (functions_of scratch.now) (value_or none (option qualifier tree.now (at + 1))) (type_of (get_or tree.now (next_of (option qualifier tree.now (at + 1))) 0)) x (init_at tree.now (next_of (option qualifier tree.now (at + 1)) + 3)) span) sink out.old result out.new }
+    requires { Checkable tree.now index.now scratch.now (9 - left) sink × (d.name < length (texts_of tree.now)) × IsOk (stmt (texts_of tree.now) left tree.now at) × (left ≤ 8) × (get_or tree.now at 0 ≡ 3) }
+    ensures { Emitted (texts_of tree.now) (classical_rest (scopes_of scratch.now (9 - left)) (functions_of scratch.now) (value_or none (option qualifier tree.now (at + 1))) (type_of (get_or tree.now (next_of (option qualifier tree.now (at + 1))) 0)) d.name (init_at tree.now (next_of (option qualifier tree.now (at + 1)) + 3)) d.symbol.decl_span) sink out.old result out.new }
 {
     let q = qualifier_at(tree, at + 1);
     let k = skip_qualifier(tree, at + 1);
-    let s = check_qualifier(tree, index, out, q, tree[k + 3], x, span, sink);
-    check_init(
-        tree,
-        index,
-        scratch,
-        out,
-        depth,
-        k + 3,
-        x,
-        type_at(tree, k),
-        s,
-    )
+    let init = tree[k + 3] != 0;
+    let s = check_qualifier(tree, index, out, q, init, d.name, d.symbol.decl_span, sink);
+    let ty = type_at(tree, k);
+    check_init(tree, index, scratch, out, 9 - left, k + 3, d.name, ty, s)
 }
 
 // The declaration of a classical variable: its name, its qualifier, its initializer.
@@ -176,52 +166,42 @@ pub fn classical_decl(
     ensures { StmtPassed tree.now index.now left at sink scratch.old out.old result scratch.new out.new }
 {
     let d = scopes::declaration_at(tree, at, left);
-    let symbol = d.symbol;
-    let span = symbol.decl_span;
-    let s = declare(tree, index, scratch, out, 9 - left, d.name, symbol, sink);
-    let r = check_classical(
-        tree,
-        index,
-        scratch,
-        out,
-        9 - left,
-        left,
-        at,
-        d.name,
-        span,
-        s,
-    );
+    let s = declare(tree, index, scratch, out, 9 - left, d, sink);
+    let r = check_classical(tree, index, scratch, out, left, at, d, s);
     After {
         next: d.end,
         sink: r,
     }
 }
 
-// The target x of an assignment whose value has the typing t.
+// The target of an assignment.
+#[tactic(auto, unfolding(crate::specs::Says::target_by))]
 fn check_target(
     tree: &[u8],
     index: &Index,
     scratch: &[u8],
     out: &mut [u8],
     depth: usize,
-    x: usize,
-    op: u8,
-    t: Typing,
-    span: Span,
+    a: Assignment,
 ) -> Sink
-    requires { Checkable tree.now index.now scratch.now depth t.sink × (x < length (texts_of tree.now)) × (op < 3) × (8 ≤ t.next) × (t.next ≤ length tree.now) }
-    ensures { Emitted (texts_of tree.now) (target_by (get (scopes_of scratch.now depth) x) x (assign_op_of op) (spanned (span_at tree.now (t.next - 8))) span (typed_of t.typed)) t.sink out.old result out.new }
+    requires { Valued tree.now index.now a.name a.value × (65536 ≤ length scratch.now) × (depth ≤ 9) }
+    ensures { Emitted (texts_of tree.now) (target_by (get (scopes_of scratch.now depth) a.name) a.name a.op (spanned (span_at tree.now (a.value.next - 8))) a.span (typed_of a.value.typed)) a.value.sink out.old result out.new }
 {
-    let sink = t.sink;
-    let found = tables::get(scratch, depth, x);
-    let Some(symbol) = found else {
-        return report_error(tree, index, out, Message::NotDeclared(x), span, sink);
+    let Some(symbol) = tables::get(scratch, depth, a.name) else {
+        return report_error(
+            tree,
+            index,
+            out,
+            Message::NotDeclared(a.name),
+            a.span,
+            a.value.sink,
+        );
     };
-    let kind = symbol.kind;
-    check_kind(tree, index, out, x, op, kind, t, span)
+    check_kind(tree, index, out, a, symbol.kind)
 }
 
 // The value, and then the target. The scratch stays as it is.
+#[tactic(auto, using(crate::proofs::Targets::assignments))]
 pub fn assignment(
     tree: &[u8],
     index: &Index,
@@ -234,28 +214,22 @@ pub fn assignment(
     requires { Passable tree.now index.now scratch.now sink × IsOk (stmt (texts_of tree.now) left tree.now at) × (left ≤ 8) × (get_or tree.now at 0 ≡ 4) }
     ensures { StmtPassed tree.now index.now left at sink scratch.now out.old result scratch.now out.new }
 {
-    let t = typing::check_expr(tree, index, scratch, out, 9 - left, at + 4, 32, sink);
-    let x = u16_at(tree, at + 1);
-    let end = t.next;
-    let span = span_at(tree, end);
-    let s = check_target(
-        tree,
-        index,
-        scratch,
-        out,
-        9 - left,
-        x,
-        tree[at + 3],
-        t,
-        span,
-    );
+    let value = typing::check_expr(tree, index, scratch, out, 9 - left, at + 4, 32, sink);
+    let a = Assignment {
+        name: u16_at(tree, at + 1),
+        op: assign_op_at(tree, at + 3),
+        value,
+        span: span_at(tree, value.next),
+    };
+    let s = check_target(tree, index, scratch, out, 9 - left, a);
     After {
-        next: end + 8,
+        next: value.next + 8,
         sink: s,
     }
 }
 
 // The function f, whose parameters stand at `at`; of two of one name the first stays.
+#[tactic(auto, using(crate::proofs::Functions::parameters))]
 fn define(
     tree: &[u8],
     index: &Index,
@@ -268,16 +242,20 @@ fn define(
     requires { TextsAt tree.now index.now × (65536 ≤ length scratch.old) × SinkFits sink × FewParams (functions_of scratch.old) × (f.name < length (texts_of tree.now)) × IsOk (vec (param (texts_of tree.now)) tree.now at) }
     ensures { Defined tree.now at f sink scratch.old out.old result scratch.new out.new }
 {
-    let x = f.name;
-    let ty = f.return_type;
-    let span = f.span;
-    let found = tables::function(scratch, x);
-    if let Some(prev) = found {
-        let first = prev.decl_span;
-        return report_defined(tree, index, out, x, span, first, sink);
+    if let Some(prev) = tables::function(scratch, f.name) {
+        return report_with_note(
+            tree,
+            index,
+            out,
+            Message::FunctionAlreadyDefined(f.name),
+            f.span,
+            Note::FirstDefined,
+            prev.decl_span,
+            sink,
+        );
     }
-    let count = wide(tree[at]);
-    tables::define_function(scratch, tree, x, at + 1, count, ty, span);
+    let count = usize::from(tree[at]);
+    tables::define_function(scratch, tree, f.name, at + 1, count, f.return_type, f.span);
     sink
 }
 
@@ -295,14 +273,26 @@ fn check_body(
     requires { Checkable tree.now index.now scratch.old depth sink × (depth < 9) × (f.name < length (texts_of tree.now)) × IsOk (vec (param (texts_of tree.now)) tree.now at) × IsOk (held (texts_of tree.now) tree.now f.body) }
     ensures { BodyChecked tree.now depth at f sink scratch.old out.old result scratch.new out.new }
 {
-    let span = f.span;
-    let ty = f.return_type;
-    scopes::enter_function(tree, scratch, depth, at, span);
+    scopes::enter_function(tree, scratch, depth, at, f.span);
     let t = typing::check_expr(tree, index, scratch, out, depth + 1, f.body, 32, sink);
-    check_return(tree, index, out, f.name, ty, t)
+    let Some(actual) = t.typed else {
+        return t.sink;
+    };
+    let message = Message::FunctionReturns(f.name, f.return_type, actual);
+    check_type(
+        tree,
+        index,
+        out,
+        f.return_type,
+        actual,
+        message,
+        t.next,
+        t.sink,
+    )
 }
 
 // The function is known in its own body. Its scope is left by counting one less.
+#[tactic(auto, using(crate::proofs::Functions::function_defs))]
 pub fn function_def(
     tree: &[u8],
     index: &Index,

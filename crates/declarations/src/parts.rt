@@ -1,18 +1,16 @@
-// The parts of a classical declaration and of a function definition, as their bytes say.
-ghost use Rattle.std.specs.Prelude.{◌≡◌, get_or};
-ghost use Rattle.std.proofs.Math.Option.{none};
+// The parts of an assignment and of a function definition, as their bytes say.
+ghost use Rattle.std.specs.Prelude.{◌≡◌, ◌<◌, length, get_or};
 ghost use Rattle.tree.specs.Ans.{IsOk};
-ghost use Rattle.tree.specs.Read.{option};
-ghost use Rattle.tree.specs.Stmts.{qualifier, stmt};
+ghost use Rattle.tree.specs.Stmts.{stmt};
 ghost use Rattle.tree.specs.Decode.{texts_of};
-ghost use Rattle.accepted.specs.Parts.{value_or};
-ghost use Rattle.declarations.specs.Says.{qualifier_code};
+ghost use Rattle.accepted.specs.Cases.{assign_op_of};
 ghost use Rattle.declarations.specs.Checked.{FunctionAt};
 
 use accepted::exprs::skip_expr;
 use accepted::numbers::{span_at, u16_at};
 use accepted::parts::skip_params;
-use ast::ClassicalType;
+use ast::{AssignOp, ClassicalType};
+use context::Typing;
 use scopes::type_at;
 use span::Span;
 
@@ -26,21 +24,28 @@ pub struct Function {
     pub end: usize,
 }
 
-// 0 for no qualifier, else one more than its case.
-pub fn qualifier_at(tree: &[u8], at: usize) -> u8
-    requires { IsOk (option qualifier tree.now at) }
-    ensures { result ≡ qualifier_code (value_or none (option qualifier tree.now at)) }
+// An assignment whose value is checked.
+#[derive(Clone, Copy)]
+pub struct Assignment {
+    pub name: usize,
+    pub op: AssignOp,
+    pub value: Typing,
+    pub span: Span,
+}
+
+// The operation of an assignment.
+pub fn assign_op_at(tree: &[u8], at: usize) -> AssignOp
+    requires { at < length tree.now }
+    ensures { result ≡ assign_op_of (get_or tree.now at 0) }
 {
-    if tree[at] == 0 {
-        return 0;
-    }
-    match tree[at + 1] {
-        0 => 1,
-        1 => 2,
-        _ => 3,
+    match tree[at] {
+        1 => AssignOp::AddAssign,
+        2 => AssignOp::SubAssign,
+        _ => AssignOp::Assign,
     }
 }
 
+#[tactic(auto, using(crate::proofs::Functions::functions))]
 pub fn function_at(tree: &[u8], at: usize, left: usize) -> Function
     requires { IsOk (stmt (texts_of tree.now) left tree.now at) × (get_or tree.now at 0 ≡ 7) }
     ensures { FunctionAt tree.now left at result }

@@ -1,22 +1,23 @@
 // What is said of declarations and assignments whose parts have been looked up.
-ghost use Rattle.std.specs.Prelude.{◌≡◌, [], ◌∷◌, ◌&&◌, ◌||◌, ◌-◌, ◌≤◌, ◌<◌, length};
+ghost use Rattle.std.specs.Prelude.{[], ◌∷◌, ◌&&◌, ◌||◌, ◌-◌, ◌≤◌, ◌<◌, length};
 ghost use Rattle.tree.specs.Decode.{texts_of};
 ghost use Rattle.types.specs.Types.{assignable_to, numeric};
-ghost use Rattle.sema.specs.Messages.{error, error_with_note, compound_numeric, cannot_initialize, function_returns, function_already_defined, first_defined};
-ghost use Rattle.sema.specs.Exprs.{mismatch};
+ghost use Rattle.sema.specs.Messages.{error, compound_numeric};
 ghost use Rattle.sema.specs.Operands.{unless};
 ghost use Rattle.sema.specs.Stmts.{is_assign, assign_says, target_says};
-ghost use Rattle.accepted.specs.Cases.{assign_op_of};
 ghost use Rattle.context.specs.Sink.{SinkFits};
 ghost use Rattle.context.specs.Values.{kind_of, typed_of, found_of};
 ghost use Rattle.context.specs.View.{TextsAt, span_at};
 ghost use Rattle.lines.specs.Values.{error_of, error_with_note_of, diagnostic_of, name_in, name_in_note, Below};
 ghost use Rattle.promises.specs.Emitted.{Emitted};
-ghost use Rattle.declarations.specs.Says.{declared_says, code_says, spanned, target_type, refusal};
+ghost use Rattle.scopes.specs.Scopes.{qualified_of};
+ghost use Rattle.declarations.specs.Says.{declared_says, qualifier_says, spanned};
+ghost use Rattle.declarations.specs.Checked.{Valued};
 
+use crate::parts::Assignment;
 use accepted::numbers::span_at;
-use ast::ClassicalType;
-use context::{Index, Sink, Symbol, SymbolKind, Typing};
+use ast::{AssignOp, ClassicalQualifier, ClassicalType};
+use context::{Index, Sink, Symbol, SymbolKind};
 use lines::{Message, Note, error, error_with_note};
 use span::Span;
 
@@ -35,7 +36,7 @@ pub fn report_error(
     lines::report(out, sink, tree, index, error(message, span))
 }
 
-fn report_with_note(
+pub fn report_with_note(
     tree: &[u8],
     index: &Index,
     out: &mut [u8],
@@ -58,6 +59,7 @@ fn report_with_note(
 }
 
 // The first declaration of a scope stays: `found` is what the scope had.
+#[tactic(auto, using(crate::proofs::Sayings::silent), unfolding(crate::specs::Says::declared_says))]
 pub fn report_declared(
     tree: &[u8],
     index: &Index,
@@ -73,7 +75,6 @@ pub fn report_declared(
     let Some(prev) = found else {
         return sink;
     };
-    let at = prev.decl_span;
     report_with_note(
         tree,
         index,
@@ -81,12 +82,13 @@ pub fn report_declared(
         Message::AlreadyDeclared(x),
         span,
         Note::FirstDeclared(x),
-        at,
+        prev.decl_span,
         sink,
     )
 }
 
 // The message at the span of the expression that ends at `end`, where the expected type does not take the actual one.
+#[tactic(auto, using(crate::proofs::Sayings::silent))]
 pub fn check_type(
     tree: &[u8],
     index: &Index,
@@ -107,229 +109,96 @@ pub fn check_type(
     report_error(tree, index, out, message, span, sink)
 }
 
-// Are both operands numeric?
-fn are_numeric(a: ClassicalType, b: ClassicalType) -> bool
-    ensures { result ≡ (numeric a && numeric b) }
-{
-    if types::is_numeric(a) {
-        return types::is_numeric(b);
-    }
-    false
-}
-
-// By the case byte of the operation.
+// A compound assignment takes numeric operands.
+#[tactic(auto, using(crate::proofs::Sayings::silent))]
 fn check_compound(
     tree: &[u8],
     index: &Index,
     out: &mut [u8],
-    op: u8,
+    op: AssignOp,
     expected: ClassicalType,
     actual: ClassicalType,
     span: Span,
     sink: Sink,
 ) -> Sink
-    requires { TextsAt tree.now index.now × (op < 3) × SinkFits sink }
-    ensures { Emitted (texts_of tree.now) (unless (is_assign (assign_op_of op) || (numeric expected && numeric actual)) (error compound_numeric span)) sink out.old result out.new }
+    requires { TextsAt tree.now index.now × SinkFits sink }
+    ensures { Emitted (texts_of tree.now) (unless (is_assign op || (numeric expected && numeric actual)) (error compound_numeric span)) sink out.old result out.new }
 {
-    if op == 0 {
-        return sink;
-    }
-    if are_numeric(expected, actual) {
+    if op == AssignOp::Assign || types::is_numeric(expected) && types::is_numeric(actual) {
         return sink;
     }
     report_error(tree, index, out, Message::CompoundNumeric, span, sink)
 }
 
-// The value of an assignment, whose typing is t, against the type of its target x.
+// The value of an assignment against the type of its target.
+#[tactic(auto, using(crate::proofs::Sayings::silent), unfolding(sema::specs::Stmts::assign_says))]
 fn check_assign(
     tree: &[u8],
     index: &Index,
     out: &mut [u8],
-    x: usize,
-    op: u8,
+    a: Assignment,
     expected: ClassicalType,
-    t: Typing,
-    span: Span,
 ) -> Sink
-    requires { TextsAt tree.now index.now × (x < length (texts_of tree.now)) × (op < 3) × (8 ≤ t.next) × (t.next ≤ length tree.now) × SinkFits t.sink }
-    ensures { Emitted (texts_of tree.now) (assign_says x (assign_op_of op) (spanned (span_at tree.now (t.next - 8))) span expected (typed_of t.typed)) t.sink out.old result out.new }
+    requires { Valued tree.now index.now a.name a.value }
+    ensures { Emitted (texts_of tree.now) (assign_says a.name a.op (spanned (span_at tree.now (a.value.next - 8))) a.span expected (typed_of a.value.typed)) a.value.sink out.old result out.new }
 {
-    let found = t.typed;
-    let sink = t.sink;
-    let Some(actual) = found else {
-        return sink;
+    let Some(actual) = a.value.typed else {
+        return a.value.sink;
     };
+    let message = Message::CannotAssign(actual, expected, a.name);
     let s = check_type(
         tree,
         index,
         out,
         expected,
         actual,
-        Message::CannotAssign(actual, expected, x),
-        t.next,
-        sink,
+        message,
+        a.value.next,
+        a.value.sink,
     );
-    check_compound(tree, index, out, op, expected, actual, span, s)
+    check_compound(tree, index, out, a.op, expected, actual, a.span, s)
 }
 
-// The type of a target that takes a value.
-fn target_type(kind: SymbolKind) -> Option<ClassicalType>
-    ensures { result ≡ target_type kind }
-{
-    match kind {
-        SymbolKind::Qubit => None,
-        SymbolKind::Bit => None,
-        SymbolKind::Classical(ty) => Some(ty),
-        SymbolKind::Const(_ty) => None,
-        SymbolKind::GateParam => None,
-        SymbolKind::GateQubit => None,
-    }
-}
-
-// The message on a target that takes none.
-fn not_assignable(kind: SymbolKind, x: usize) -> Message
-    ensures { result ≡ refusal kind x }
-{
-    match kind {
-        SymbolKind::Qubit => Message::NotAssignable(x),
-        SymbolKind::Bit => Message::NotAssignable(x),
-        SymbolKind::Classical(_ty) => Message::NotAssignable(x),
-        SymbolKind::Const(_ty) => Message::AssignToConst(x),
-        SymbolKind::GateParam => Message::NotAssignable(x),
-        SymbolKind::GateQubit => Message::NotAssignable(x),
-    }
-}
-
-// The target x of an assignment is of this kind.
+// The target of an assignment is of this kind.
+#[tactic(auto, unfolding(sema::specs::Stmts::target_says))]
 pub fn check_kind(
     tree: &[u8],
     index: &Index,
     out: &mut [u8],
-    x: usize,
-    op: u8,
+    a: Assignment,
     kind: SymbolKind,
-    t: Typing,
-    span: Span,
 ) -> Sink
-    requires { TextsAt tree.now index.now × (x < length (texts_of tree.now)) × (op < 3) × (8 ≤ t.next) × (t.next ≤ length tree.now) × SinkFits t.sink }
-    ensures { Emitted (texts_of tree.now) (target_says x (assign_op_of op) (spanned (span_at tree.now (t.next - 8))) span (typed_of t.typed) (kind_of kind)) t.sink out.old result out.new }
+    requires { Valued tree.now index.now a.name a.value }
+    ensures { Emitted (texts_of tree.now) (target_says a.name a.op (spanned (span_at tree.now (a.value.next - 8))) a.span (typed_of a.value.typed) (kind_of kind)) a.value.sink out.old result out.new }
 {
-    let found = target_type(kind);
-    let sink = t.sink;
-    let Some(expected) = found else {
-        return report_error(tree, index, out, not_assignable(kind, x), span, sink);
+    let message = match kind {
+        SymbolKind::Classical(expected) => return check_assign(tree, index, out, a, expected),
+        SymbolKind::Const(_) => Message::AssignToConst(a.name),
+        SymbolKind::Qubit | SymbolKind::Bit | SymbolKind::GateParam | SymbolKind::GateQubit =>
+            Message::NotAssignable(a.name),
     };
-    check_assign(tree, index, out, x, op, expected, t, span)
+    report_error(tree, index, out, message, a.span, a.value.sink)
 }
 
-// The const and input checks: q is 0 for no qualifier, 1 for const, 2 for input; `init` is 0 for no initializer.
+// The const and input checks; `init` says whether there is an initializer.
+#[tactic(auto, using(crate::proofs::Sayings::silent), unfolding(crate::specs::Says::qualifier_says))]
 pub fn check_qualifier(
     tree: &[u8],
     index: &Index,
     out: &mut [u8],
-    q: u8,
-    init: u8,
+    q: Option<ClassicalQualifier>,
+    init: bool,
     x: usize,
     span: Span,
     sink: Sink,
 ) -> Sink
     requires { TextsAt tree.now index.now × (x < length (texts_of tree.now)) × SinkFits sink }
-    ensures { Emitted (texts_of tree.now) (code_says q init x span) sink out.old result out.new }
+    ensures { Emitted (texts_of tree.now) (qualifier_says (qualified_of q) init x span) sink out.old result out.new }
 {
-    if q == 1 {
-        if init == 0 {
-            return report_error(tree, index, out, Message::ConstWithoutInit(x), span, sink);
-        }
-        return sink;
-    }
-    if q == 2 {
-        if init == 0 {
-            return sink;
-        }
-        return report_error(tree, index, out, Message::InputWithInit(x), span, sink);
-    }
-    sink
-}
-
-// The initializer of x, whose typing is t.
-pub fn check_value(
-    tree: &[u8],
-    index: &Index,
-    out: &mut [u8],
-    x: usize,
-    ty: ClassicalType,
-    t: Typing,
-) -> Sink
-    requires { TextsAt tree.now index.now × (x < length (texts_of tree.now)) × (8 ≤ t.next) × (t.next ≤ length tree.now) × SinkFits t.sink }
-    ensures { Emitted (texts_of tree.now) (mismatch (λ actual. error (cannot_initialize ty x actual) (span_at tree.now (t.next - 8))) ty (typed_of t.typed)) t.sink out.old result out.new }
-{
-    let found = t.typed;
-    let sink = t.sink;
-    let Some(actual) = found else {
-        return sink;
+    let message = match (q, init) {
+        (Some(ClassicalQualifier::Const), false) => Message::ConstWithoutInit(x),
+        (Some(ClassicalQualifier::Input), true) => Message::InputWithInit(x),
+        _ => return sink,
     };
-    check_type(
-        tree,
-        index,
-        out,
-        ty,
-        actual,
-        Message::CannotInitialize(ty, x, actual),
-        t.next,
-        sink,
-    )
-}
-
-// The body of the function x, whose typing is t.
-pub fn check_return(
-    tree: &[u8],
-    index: &Index,
-    out: &mut [u8],
-    x: usize,
-    ty: ClassicalType,
-    t: Typing,
-) -> Sink
-    requires { TextsAt tree.now index.now × (x < length (texts_of tree.now)) × (8 ≤ t.next) × (t.next ≤ length tree.now) × SinkFits t.sink }
-    ensures { Emitted (texts_of tree.now) (mismatch (λ actual. error (function_returns x ty actual) (span_at tree.now (t.next - 8))) ty (typed_of t.typed)) t.sink out.old result out.new }
-{
-    let found = t.typed;
-    let sink = t.sink;
-    let Some(actual) = found else {
-        return sink;
-    };
-    check_type(
-        tree,
-        index,
-        out,
-        ty,
-        actual,
-        Message::FunctionReturns(x, ty, actual),
-        t.next,
-        sink,
-    )
-}
-
-// The name x has a function already.
-pub fn report_defined(
-    tree: &[u8],
-    index: &Index,
-    out: &mut [u8],
-    x: usize,
-    span: Span,
-    at: Span,
-    sink: Sink,
-) -> Sink
-    requires { TextsAt tree.now index.now × (x < length (texts_of tree.now)) × SinkFits sink }
-    ensures { Emitted (texts_of tree.now) (error_with_note (function_already_defined x) span first_defined at ∷ []) sink out.old result out.new }
-{
-    report_with_note(
-        tree,
-        index,
-        out,
-        Message::FunctionAlreadyDefined(x),
-        span,
-        Note::FirstDefined,
-        at,
-        sink,
-    )
+    report_error(tree, index, out, message, span, sink)
 }

@@ -29,6 +29,7 @@ use Rattle.accepted.specs.Operands.{some_qualifier_in, some_qualifier_is}
 use Rattle.accepted.specs.Stmts as of
 use Rattle.accepted.specs.Stmts.{classical_decl-qualifier, classical_decl_init, classical_decl-inside}
 use Rattle.scopes.specs.declared.Declaration.{Declaration}
+use Rattle.scopes.specs.Laws.{classical-named_in}
 use Rattle.scopes.specs.Scopes.{register_kind, qualified_of, Declares}
 
 -- a symbol declared: the name is new in the innermost scope, or not
@@ -120,9 +121,6 @@ module _ (s : List ℕ) (at : ℕ) (h : IsOk (option qualifier s at)) where
 pub ruleset qualifiers = (option_in, some_qualifier_in, qualifier-none, qualifier-const, qualifier_input, qualifier_output)
 
 -- what is known of the parts of the declarations where they are read
-pub classical-named_in : (t : List Text) (left : ℕ) (s : List ℕ) (at : ℕ) → IsOk (stmt t left s at) → get_or s at 0 ≡ 3 → (k : ℕ) → k ≡ next_of (option qualifier s (at + 1)) → k + 3 ≤ length s
-classical-named_in t left s at h b k e = (of.classical_decl-named t left s at h b k e).inside
-
 pub ruleset classical = (stmt_in, classical_decl-qualifier, classical-named_in, classical_decl_init, classical_decl-inside)
 
 pub ruleset registers = (stmt_in, register-name_in, register-size, register-inside)

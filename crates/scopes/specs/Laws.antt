@@ -1,6 +1,11 @@
 -- Laws of the scopes for those who call this crate. Assumes nothing.
-use Rattle.std.specs.Prelude.{ℕ, zero, suc, ◌≤◌, ◌<◌, ◌≡◌, List, ◌∷◌}
+use Rattle.std.specs.Prelude.{ℕ, zero, suc, ◌+◌, ◌≤◌, ◌<◌, ◌≡◌, List, ◌∷◌, length, get_or}
 use Rattle.std.proofs.Common.{arith}
+use Rattle.ast.specs.Tree.{Text}
+use Rattle.tree.specs.Ans.{IsOk, next_of}
+use Rattle.tree.specs.Read.{option}
+use Rattle.tree.specs.Stmts.{qualifier, stmt}
+use Rattle.accepted.specs.Stmts.{classical_decl-named}
 use Rattle.sema.specs.Symbols.{Symbol, Table, GateSig, FunctionSig, Scope}
 use Rattle.context.specs.View.{scopes_of}
 use Rattle.tables.specs.Tables.{Becomes, Inserted}
@@ -14,3 +19,7 @@ entered_below {s} {u} {depth} b d l = scopes_fewer s u depth d (scopes_below b) 
 pub inserted_below : (s u : List ℕ) (depth x : ℕ) (sym : Symbol) → 0 < depth → Inserted s u depth x sym → (d : ℕ) → d < depth → scopes_of u d ≡ scopes_of s d
 inserted_below s u zero x sym l b d m = absurd (omega arith)
 inserted_below s u (suc n) x sym l b d m = scopes_fewer s u n d (insert-below x sym b) (omega arith)
+
+-- the name of a classical declaration is there, and the type before it
+pub classical-named_in : (t : List Text) (left : ℕ) (s : List ℕ) (at : ℕ) → IsOk (stmt t left s at) → get_or s at 0 ≡ 3 → (k : ℕ) → k ≡ next_of (option qualifier s (at + 1)) → k + 3 ≤ length s
+classical-named_in t left s at h b k e = (classical_decl-named t left s at h b k e).inside
