@@ -16,8 +16,9 @@ use Rattle.sema.specs.Keys.{keys}
 use Rattle.sema.specs.Stmts.{analyze}
 use Rattle.listing.specs.Listing.{ended, first_line, listing_of}
 use Rattle.answer.specs.Answer.{Answer, accepted, refusal, judge_diagnostics, judge_program, judge_file, answer, listing_file, listing_after, scratch_after}
-use Rattle.reader.specs.Answers.{validated}
-use Rattle.reader.specs.declared.Validated.{Validated}
+use Rattle.std.specs.Prelude.{Option, Some, None, is_some}
+use Rattle.std.proofs.lemmas.Bool.{false≢true}
+use Rattle.reader.specs.Answers.{told, refusal_of}
 use Rattle.context.specs.declared.Sink.{Sink}
 use Rattle.lines.specs.EmitLaws.{listing-stored}
 use Rattle.tables.specs.Tables.{cleared}
@@ -32,7 +33,6 @@ use Rattle.verdict.proofs.Judging.{few_of, judged-fine, listed-fine}
 use Rattle.checker.specs.declared.Outcome.{Outcome}
 use Rattle.checker.specs.Check.{SameRest, program_listing, listing_for, Judged, JudgedFile, Ran, Known}
 use Rattle.checker.proofs.Runs.{written}
-use Rattle.checker.proofs.Numbers.{Numbered}
 
 -- what the second walk leaves
 pub listing-written : (p : Program) → length (keys p) ≤ key_limit → (sink : Sink) → Learnt p sink → sink.errors + sink.warnings ≤ 256 → (l : List ℕ) → {s : List ℕ} {n : ℕ} {o : List ℕ} {r : Outcome} {s' o' : List ℕ}
@@ -82,21 +82,18 @@ module _ (p : Program) {s l s' : List ℕ} where
         })
 
 -- of a file
-no_variant : {C : Type 0} {n q : ℕ} → Validated.Refused n q ≡ Validated.Accepted → C
-no_variant e = let z : ◌≡◌ {A = ℕ} 0 1 = cc in absurd (omega arith)
+said : Option (ℕ × ℕ) → ℕ × ℕ
+said (Some p) = p
+said None = (0, 0)
 
-pub file-refused : (x : Ans Program) (n q : ℕ) → Validated.Refused n q ≡ validated x → x ≡ refused n q
-unfolding validated
-file-refused (ok p next) n q e = no_variant e
-file-refused (refused m r) n q e = let a : n ≡ m = cc in let b : q ≡ r = cc in rw (a, b)
+pub file-refused : (x : Ans Program) (r : Refused) → told (Err r) ≡ refusal_of x → x ≡ refused (number_of r.refusal) r.place
+file-refused (ok p next) r e = absurd (false≢true (sym (ap is_some e)))
+file-refused (refused m q) r e = let i = ap said e in rw (ap (λ (p : ℕ × ℕ). p.0) i, ap (λ (p : ℕ × ℕ). p.1) i)
 
-pub file-accepted : (x : Ans Program) → Validated.Accepted ≡ validated x → IsOk x
-unfolding validated IsOk
+pub file-accepted : (x : Ans Program) → None ≡ refusal_of x → IsOk x
+unfolding IsOk
 file-accepted (ok p next) e = tt
-file-accepted (refused m r) e = no_variant (sym e)
-
-pub file-numbered : (x : Ans Program) (n q : ℕ) → Numbered x → Validated.Refused n q ≡ validated x → (2 ≤ n) × (n ≤ 6)
-file-numbered x n q h e = rw (file-refused x n q e) at h
+file-accepted (refused m r) e = absurd (false≢true (ap is_some e))
 
 pub judged-refused : (tree s l : List ℕ) (r : Refused) → decode tree ≡ refused (number_of r.refusal) r.place → JudgedFile tree s l (Err r) s l
 unfolding judge_file listing_after

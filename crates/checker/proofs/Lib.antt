@@ -1,4 +1,3 @@
 pub mod Programs
 pub mod Runs
 pub mod Judging
-pub mod Numbers

@@ -25,7 +25,7 @@ ghost use Rattle.declarations.specs.Checked.{Checkable, Valued, Declared, init_a
 use accepted::numbers::{span_at, u16_at};
 use accepted::parts::skip_qualifier;
 use ast::ClassicalType;
-use context::{After, Index, Sink};
+use context::{After, Index, SemaContext, Sink};
 use lines::{Message, Note};
 use parts::{Assignment, Function, assign_op_at, function_at};
 use reports::{
@@ -121,7 +121,13 @@ fn check_init(
     if tree[at] == 0 {
         return sink;
     }
-    let t = typing::check_expr(tree, index, scratch, out, depth, at + 1, 32, sink);
+    let sema = SemaContext {
+        tree,
+        index,
+        scratch,
+        depth,
+    };
+    let t = typing::check_expr(sema, out, at + 1, 32, sink);
     let Some(actual) = t.typed else {
         return t.sink;
     };
@@ -214,7 +220,13 @@ pub fn assignment(
     requires { Passable tree.now index.now scratch.now sink × IsOk (stmt (texts_of tree.now) left tree.now at) × (left ≤ 8) × (get_or tree.now at 0 ≡ 4) }
     ensures { StmtPassed tree.now index.now left at sink scratch.now out.old result scratch.now out.new }
 {
-    let value = typing::check_expr(tree, index, scratch, out, 9 - left, at + 4, 32, sink);
+    let sema = SemaContext {
+        tree,
+        index,
+        scratch,
+        depth: 9 - left,
+    };
+    let value = typing::check_expr(sema, out, at + 4, 32, sink);
     let a = Assignment {
         name: u16_at(tree, at + 1),
         op: assign_op_at(tree, at + 3),
@@ -274,7 +286,13 @@ fn check_body(
     ensures { BodyChecked tree.now depth at f sink scratch.old out.old result scratch.new out.new }
 {
     scopes::enter_function(tree, scratch, depth, at, f.span);
-    let t = typing::check_expr(tree, index, scratch, out, depth + 1, f.body, 32, sink);
+    let sema = SemaContext {
+        tree,
+        index,
+        scratch,
+        depth: depth + 1,
+    };
+    let t = typing::check_expr(sema, out, f.body, 32, sink);
     let Some(actual) = t.typed else {
         return t.sink;
     };
