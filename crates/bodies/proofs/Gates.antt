@@ -1,5 +1,5 @@
 -- Before the body of a gate definition. Assumes nothing.
-use Prim.Native.Nat.{ℕ, suc, ◌+◌, ◌-◌, ◌<◌}
+use Prim.Native.Nat.{ℕ, suc, ◌+◌, ◌-◌, ◌≤◌, ◌<◌}
 use mathlib.Core.Path.{◌≡◌, refl, ap, ◌∙◌}
 use mathlib.Core.List.{List, [], ◌∷◌}
 use native.Mathlib.Omega.{arith}
@@ -14,8 +14,8 @@ use Rattle.tree.specs.Decode.{texts_of}
 use Rattle.sema.specs.Symbols.{gate_scope, Symbols}
 use Rattle.context.specs.declared.Sink.{Sink}
 use Rattle.context.specs.declared.GateSig.{GateSig as GateValue}
-use Rattle.std.specs.Prelude.{Option as Maybe, Some, None}
-use Rattle.context.specs.declared.GateSig.{GateSig}
+use Rattle.std.specs.Prelude.{Option as Maybe, Some, None, true, false}
+use Rattle.std.specs.Option.{is_some}
 use Rattle.context.specs.declared.State.{State}
 use Rattle.context.specs.Sink.{SinkFits}
 use Rattle.context.specs.Values.{found_gate_of}
@@ -25,8 +25,9 @@ use Rattle.lines.specs.declared.Diagnostic.{Diagnostic}
 use Rattle.lines.specs.Values.{error_of, Reported}
 use Rattle.tables.specs.Tables.{Becomes, GateDefined}
 use Rattle.accepted.specs.Parts.{value_or}
-use Rattle.accepted.specs.Stmts.{gate_def-named}
-use Rattle.promises.specs.Emitted.{Emitted, emitted-none, emitted_report}
+use Rattle.accepted.specs.Stmts.{gate_def-named, gate_def-params, gate_def_qparams, gate_def-body, gate_def-inside}
+use Rattle.accepted.specs.Bodies.{stmt-left}
+use Rattle.promises.specs.Emitted.{Emitted, error-fits, emitted-none, emitted_report}
 use Rattle.bodies.specs.declared.gate_defs.GateParts.{GateParts}
 use Rattle.bodies.specs.Opened.{gate_qubits, gate_known, GateOpened}
 use Rattle.bodies.specs.Parts.{GatePartsOf, GateEntered}
@@ -43,11 +44,13 @@ parts_of tree left at x k m n sp h b x-is k_is m-is n-is sp-is = record {
 
 -- what is said of the name: nothing where no gate was found
 module _ {t : List Text} (s : List ℕ) {o : List ℕ} {sink : Sink} (x : ℕ) (sp : Span) where
-  pub gate_unknown : {found : Maybe GateValue} → found_gate_of found ≡ gates_of s x → found ≡ None → SinkFits sink → Emitted t (gate_known (gates_of s) x sp) sink o sink o
-  gate_unknown e n f = rw (← e, n) (emitted-none f)
+  pub gate_unknown : (found : Maybe GateValue) → found_gate_of found ≡ gates_of s x → is_some found ≡ false → SinkFits sink → Emitted t (gate_known (gates_of s) x sp) sink o sink o
+  gate_unknown None e n f = rw (← e) (emitted-none f)
+  gate_unknown (Some g) e n f = absurd cc
 
-  pub gate_known_lem : {o' : List ℕ} {r : Sink} {found : Maybe GateValue} {g : GateSig} {d : Diagnostic} → found_gate_of found ≡ gates_of s x → found ≡ Some g → d ≡ error_of (Message.GateAlreadyDefined x) sp → Reported t d sink o r o' → Emitted t (gate_known (gates_of s) x sp) sink o r o'
-  gate_known_lem e n d p = rw (← e, n) (emitted_report d p)
+  pub gate_known_lem : {o' : List ℕ} {r : Sink} {d : Diagnostic} (found : Maybe GateValue) → found_gate_of found ≡ gates_of s x → is_some found ≡ true → d ≡ error_of (Message.GateAlreadyDefined x) sp → Reported t d sink o r o' → Emitted t (gate_known (gates_of s) x sp) sink o r o'
+  gate_known_lem None e n d p = absurd cc
+  gate_known_lem (Some g) e n d p = rw (← e) (emitted_report d p)
 
 -- a gate defined, and then its scope entered
 pub gate-entered : (s u v : List ℕ) (depth x p q : ℕ) (params qparams : List TextNumber) (sp : Span) → p ≡ length params → q ≡ length qparams → depth < 9 → GateDefined s u x (record { param-count = p; qubit-count = q; decl_span = sp }) → Becomes u v (suc depth) (gate_scope params qparams sp ∷ scopes_of u depth) (gates_of u) (functions_of u) → GateEntered s v depth x params qparams sp
@@ -69,3 +72,12 @@ gate-opened tree left st s o s' o' r sink p e b = record {
   emitted = rw (← p.span_is, ← p.name_is) e;
   becomes = rw (← p.span_is, ← p.qubits_are, ← p.name_is) b;
 }
+
+-- what is known of the parts where they are read
+module _ (t : List Text) (left : ℕ) (s : List ℕ) (at : ℕ) (h : IsOk (stmt t left s at)) (b : get_or s at 0 ≡ 6) where
+  pub gate-named_in : at + 3 ≤ length s
+  gate-named_in = (gate_def-named t left s at h b).inside
+
+pub ruleset gates = (stmt-left, gate-named_in, gate_def-params, gate_def_qparams, gate_def-body, gate_def-inside)
+
+pub ruleset reports = (error-fits)

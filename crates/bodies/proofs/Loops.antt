@@ -1,10 +1,12 @@
 -- Before the body of a `for`. Assumes nothing.
-use Prim.Native.Nat.{ℕ, suc, ◌+◌, ◌-◌, ◌<◌}
+use Prim.Native.Nat.{ℕ, suc, ◌+◌, ◌-◌, ◌≤◌, ◌<◌}
 use mathlib.Core.Path.{◌≡◌, refl, sym, ◌∙◌}
-use mathlib.Core.Bool.{true, false}
+use mathlib.Core.Bool.{false}
 use mathlib.Core.List.{List, [], ◌∷◌, ◌++◌}
 use mathlib.Core.Option.{none}
 use lib.ListN.{length, get_or}
+use denote.Enum.Bare.{sameb}
+use Rattle.ast.specs.contracts.ClassicalType.{the_type}
 use Rattle.span.specs.declared.Span.{Span}
 use Rattle.ast.specs.Tree.{Text, Expr}
 use Rattle.ast.specs.declared.ClassicalType.{ClassicalType}
@@ -28,18 +30,16 @@ use Rattle.lines.specs.Values.{error_of, Reported}
 use Rattle.tables.specs.Tables.{Becomes}
 use Rattle.accepted.specs.Cases.{blank, blank_range}
 use Rattle.accepted.specs.Parts.{given_ok, given_is}
-use Rattle.accepted.specs.Fields.{option-none, option-some, option-held}
+use Rattle.accepted.specs.Fields.{option_in, option-none, option-some, option-held}
 use Rattle.accepted.specs.Exprs.{expr_in}
 use Rattle.accepted.specs.Operands.{for_range-start, for_range-end, for_range-step, for_range_is}
-use Rattle.accepted.specs.Stmts.{for_loop-named}
-use Rattle.promises.specs.Emitted.{Emitted, emitted-none, emitted_then, emitted_as, unless_holds, emitted_report}
+use Rattle.accepted.specs.Bodies.{stmt_in, stmt-left}
+use Rattle.accepted.specs.Stmts.{for_loop-named, for_loop_range, for_loop-body, for_loop-inside, branch-condition, while_loop-condition}
+use Rattle.promises.specs.Emitted.{Emitted, error-fits, emitted-none, emitted_then, emitted_as, emitted_report}
 use Rattle.promises.specs.Typings.{SaidOf, plain_context}
 use Rattle.bodies.specs.declared.for_loops.ForParts.{ForParts}
 use Rattle.bodies.specs.Opened.{for_body, ForOpened}
-use Rattle.bodies.specs.Parts.{ForPartsOf, is_int, variable_says, bounds_say}
-
-pub range_in : (t : List Text) (s : List ℕ) (at : ℕ) → IsOk (for_range t s at) → at < length s
-range_in t s at h = expr_in t 32 s at (for_range-start t s at h)
+use Rattle.bodies.specs.Parts.{ForPartsOf, variable_says, bounds_say}
 
 -- the parts as they are read
 pub parts_of : (tree : List ℕ) (left at x m n : ℕ) (ty : ClassicalType) (sp : Span) → IsOk (stmt (texts_of tree) left tree at) → get_or tree at 0 ≡ 13 → x ≡ number_at 2 tree (at + 1) → ty ≡ type_of (get_or tree (at + 3) 0) → m ≡ for_body tree left at → n ≡ next_of (body (stmt (texts_of tree) (left - 1)) tree m) → sp ≡ span_at tree n → ForPartsOf tree left at (record { name = x; ty = ty; body_at = m; span = sp })
@@ -51,13 +51,13 @@ parts_of tree left at x m n ty sp h b x-is ty-is m-is n-is sp-is = record {
   span_is = cc;
 }
 
--- what is said of the variable
-module _ {t : List Text} {sink : Sink} {o : List ℕ} (ty : ClassicalType) (sp : Span) where
-  pub variable_int : is_int ty ≡ true → SinkFits sink → Emitted t (variable_says ty sp) sink o sink o
-  variable_int e f = unless_holds (is_int ty) _ e f
-
-  pub variable_other : {r : Sink} {o' : List ℕ} {d : DiagnosticValue} → is_int ty ≡ false → d ≡ error_of Message.ForVariable sp → Reported t d sink o r o' → Emitted t (variable_says ty sp) sink o r o'
-  variable_other e d p = rw e (emitted_report d p)
+-- what is said of a variable that is no int
+pub variable_other : {t : List Text} {s : Sink} {o : List ℕ} {r : Sink} {o' : List ℕ} {d : DiagnosticValue} (ty : ClassicalType) (sp : Span) → false ≡ sameb the_type ty ClassicalType.Int → d ≡ error_of Message.ForVariable sp → Reported t d s o r o' → Emitted t (variable_says ty sp) s o r o'
+variable_other ClassicalType.Int sp e d p = absurd cc
+variable_other ClassicalType.UInt sp e d p = emitted_report d p
+variable_other ClassicalType.Float sp e d p = emitted_report d p
+variable_other ClassicalType.Angle sp e d p = emitted_report d p
+variable_other ClassicalType.Bool sp e d p = emitted_report d p
 
 module _ (ss : Symbols) (fs : Table FunctionSig) (t : List Text) (s : List ℕ) (at : ℕ) where
   abbrev must_be_int : Messages.Context → Expr → List Diagnostic
@@ -107,3 +107,21 @@ for_opened tree left st s o o₁ s' o' r sink₁ sink h p v e b = record {
   emitted = rw (← p.span_is, ← p.type_is) (emitted_as (emitted_then v e) (range_says_lem (scopes_of s (9 - left)) (functions_of s) (texts_of tree) tree (st.at + 4) h r.ty r.span));
   becomes = rw (← p.span_is, ← p.type_is, ← p.name_is) b;
 }
+
+-- what is known of the parts where they are read
+module _ (t : List Text) (left : ℕ) (s : List ℕ) (at : ℕ) (h : IsOk (stmt t left s at)) (b : get_or s at 0 ≡ 13) where
+  pub loop-named_in : at + 3 ≤ length s
+  loop-named_in = (for_loop-named t left s at h b).inside
+
+  pub loop-range_in : at + 4 < length s
+  loop-range_in = expr_in t 32 s (at + 4) (for_range-start t s (at + 4) (for_loop_range t left s at h b))
+
+pub ruleset loops = (stmt-left, loop-named_in, loop-range_in, for_loop_range, for_loop-body, for_loop-inside)
+
+pub ruleset conditions = (stmt_in, stmt-left, branch-condition, while_loop-condition)
+
+pub ruleset steps = (option_in, option-held)
+
+pub ruleset ranges = (for_range-start, for_range-end, for_range-step)
+
+pub ruleset variables = (error-fits, emitted-none)

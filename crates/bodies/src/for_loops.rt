@@ -9,7 +9,7 @@ ghost use Rattle.context.specs.Sink.{SinkFits};
 ghost use Rattle.context.specs.View.{scopes_of, functions_of, TextsAt};
 ghost use Rattle.promises.specs.Emitted.{Emitted};
 ghost use Rattle.promises.specs.Typings.{plain_context};
-ghost use Rattle.bodies.specs.Parts.{ForPartsOf, is_int, variable_says, bounds_say};
+ghost use Rattle.bodies.specs.Parts.{ForPartsOf, variable_says, bounds_say};
 
 use accepted::numbers::{span_at, u16_at};
 use accepted::parts::skip_range;
@@ -29,6 +29,7 @@ pub struct ForParts {
     pub span: Span,
 }
 
+#[tactic(auto, using(crate::proofs::Loops::loops))]
 pub fn for_parts(tree: &[u8], at: usize, left: usize) -> ForParts
     requires { IsOk (stmt (texts_of tree.now) left tree.now at) × (get_or tree.now at 0 ≡ 13) }
     ensures { ForPartsOf tree.now left at result }
@@ -45,19 +46,8 @@ pub fn for_parts(tree: &[u8], at: usize, left: usize) -> ForParts
     }
 }
 
-fn is_int(ty: ClassicalType) -> bool
-    ensures { result ≡ is_int ty }
-{
-    match ty {
-        ClassicalType::Int => true,
-        ClassicalType::UInt => false,
-        ClassicalType::Float => false,
-        ClassicalType::Angle => false,
-        ClassicalType::Bool => false,
-    }
-}
-
 // The variable of a `for` must be an int.
+#[tactic(auto, using(crate::proofs::Loops::variables))]
 pub fn report_type(
     tree: &[u8],
     index: &Index,
@@ -69,7 +59,7 @@ pub fn report_type(
     requires { TextsAt tree.now index.now × SinkFits sink }
     ensures { Emitted (texts_of tree.now) (variable_says ty span) sink out.old result out.new }
 {
-    if is_int(ty) {
+    if ty == ClassicalType::Int {
         return sink;
     }
     lines::report(
@@ -82,6 +72,7 @@ pub fn report_type(
 }
 
 // The step of a range, where there is one.
+#[tactic(auto, using(crate::proofs::Loops::steps))]
 fn check_step(
     tree: &[u8],
     index: &Index,
@@ -97,7 +88,7 @@ fn check_step(
     if tree[at] == 0 {
         return sink;
     }
-    let a = typing::require_type(
+    typing::require_type(
         tree,
         index,
         scratch,
@@ -107,11 +98,12 @@ fn check_step(
         ClassicalType::Int,
         Place::RangeStep,
         sink,
-    );
-    a.sink
+    )
+    .sink
 }
 
 // The bounds of a range, and its step.
+#[tactic(auto, using(crate::proofs::Loops::ranges))]
 pub fn check_range(
     tree: &[u8],
     index: &Index,

@@ -18,7 +18,6 @@ use accepted::stmts::skip_body;
 use context::{GateSig, Index, Sink};
 use lines::Message;
 use span::Span;
-use text::wide;
 
 // The parts of a gate definition.
 #[derive(Clone, Copy)]
@@ -29,6 +28,7 @@ pub struct GateParts {
     pub span: Span,
 }
 
+#[tactic(auto, using(crate::proofs::Gates::gates))]
 pub fn gate_parts(tree: &[u8], at: usize, left: usize) -> GateParts
     requires { IsOk (stmt (texts_of tree.now) left tree.now at) × (get_or tree.now at 0 ≡ 6) }
     ensures { GatePartsOf tree.now left at result }
@@ -46,6 +46,7 @@ pub fn gate_parts(tree: &[u8], at: usize, left: usize) -> GateParts
 }
 
 // A name that a gate has is reported, and the definition replaces the other.
+#[tactic(auto, using(crate::proofs::Gates::reports))]
 pub fn report_gate(
     tree: &[u8],
     index: &Index,
@@ -58,9 +59,9 @@ pub fn report_gate(
     requires { TextsAt tree.now index.now × (65536 ≤ length scratch.now) × SinkFits sink × (x < length (texts_of tree.now)) }
     ensures { Emitted (texts_of tree.now) (gate_known (gates_of scratch.now) x span) sink out.old result out.new }
 {
-    let Some(_) = tables::gate(scratch, x) else {
+    if tables::gate(scratch, x).is_none() {
         return sink;
-    };
+    }
     lines::report(
         out,
         sink,
@@ -71,33 +72,24 @@ pub fn report_gate(
 }
 
 // A Vec has as many values as its byte says.
+#[tactic(auto, using(accepted::specs::Fields::counted_in))]
 fn count_at(tree: &[u8], at: usize) -> usize
     requires { IsOk (vec (name (texts_of tree.now)) tree.now at) }
     ensures { (result ≡ length (value_or [] (vec (name (texts_of tree.now)) tree.now at))) × (result < 256) }
 {
-    wide(tree[at])
+    usize::from(tree[at])
 }
 
-// The gate is defined, and the scope of its parameters entered.
-pub fn define_gate(
-    tree: &[u8],
-    scratch: &mut [u8],
-    depth: usize,
-    x: usize,
-    at: usize,
-    qubits_at: usize,
-    span: Span,
-)
-    requires { (65536 ≤ length scratch.old) × (depth < 9) × (length (texts_of tree.now) ≤ 256) × (x < 256) × IsOk (vec (name (texts_of tree.now)) tree.now at) × IsOk (vec (name (texts_of tree.now)) tree.now qubits_at) }
-    ensures { GateEntered scratch.old scratch.new depth x (value_or [] (vec (name (texts_of tree.now)) tree.now at)) (value_or [] (vec (name (texts_of tree.now)) tree.now qubits_at)) span }
+// The gate is defined, and the scope of its parameters, which stand at `at`, is entered.
+pub fn define_gate(tree: &[u8], scratch: &mut [u8], depth: usize, at: usize, parts: GateParts)
+    requires { (65536 ≤ length scratch.old) × (depth < 9) × (length (texts_of tree.now) ≤ 256) × (parts.name < 256) × IsOk (vec (name (texts_of tree.now)) tree.now at) × IsOk (vec (name (texts_of tree.now)) tree.now parts.qubits_at) }
+    ensures { GateEntered scratch.old scratch.new depth parts.name (value_or [] (vec (name (texts_of tree.now)) tree.now at)) (value_or [] (vec (name (texts_of tree.now)) tree.now parts.qubits_at)) parts.span }
 {
-    let param_count = count_at(tree, at);
-    let qubit_count = count_at(tree, qubits_at);
     let sig = GateSig {
-        param_count,
-        qubit_count,
-        decl_span: span,
+        param_count: count_at(tree, at),
+        qubit_count: count_at(tree, parts.qubits_at),
+        decl_span: parts.span,
     };
-    tables::define_gate(scratch, x, sig);
-    scopes::enter_gate(tree, scratch, depth, at, qubits_at, span);
+    tables::define_gate(scratch, parts.name, sig);
+    scopes::enter_gate(tree, scratch, depth, at, parts.qubits_at, parts.span);
 }

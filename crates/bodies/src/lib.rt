@@ -22,6 +22,7 @@ use gate_defs::{define_gate, gate_parts, report_gate};
 use lines::Place;
 
 // The gate is defined, and its body opened.
+#[tactic(auto, using(crate::proofs::Gates::gates))]
 pub fn open_gate(
     tree: &[u8],
     index: &Index,
@@ -35,17 +36,8 @@ pub fn open_gate(
     ensures { (marks : List ℕ) → GateOpened tree.now left (state_of at sink marks) scratch.old out.old (state_of result.next result.sink marks) scratch.new out.new }
 {
     let parts = gate_parts(tree, at, left);
-    let span = parts.span;
-    let said = report_gate(tree, index, scratch, out, parts.name, span, sink);
-    define_gate(
-        tree,
-        scratch,
-        9 - left,
-        parts.name,
-        at + 3,
-        parts.qubits_at,
-        span,
-    );
+    let said = report_gate(tree, index, scratch, out, parts.name, parts.span, sink);
+    define_gate(tree, scratch, 9 - left, at + 3, parts);
     After {
         next: parts.body_at,
         sink: said,
@@ -81,6 +73,8 @@ fn open_condition(
     a
 }
 
+// Each case of a statement has its function, as document 01 asks: an `if` and a `while` are opened alike.
+#[tactic(auto, using(crate::proofs::Loops::conditions))]
 pub fn open_if(
     tree: &[u8],
     index: &Index,
@@ -105,6 +99,7 @@ pub fn open_if(
     )
 }
 
+#[tactic(auto, using(crate::proofs::Loops::conditions))]
 pub fn open_while(
     tree: &[u8],
     index: &Index,
@@ -130,6 +125,7 @@ pub fn open_while(
 }
 
 // The bounds are checked, and the body opened.
+#[tactic(auto, using(crate::proofs::Loops::loops))]
 pub fn open_for(
     tree: &[u8],
     index: &Index,
@@ -143,11 +139,9 @@ pub fn open_for(
     ensures { (marks : List ℕ) → ForOpened tree.now left (state_of at sink marks) scratch.old out.old (state_of result.next result.sink marks) scratch.new out.new }
 {
     let parts = for_parts(tree, at, left);
-    let ty = parts.ty;
-    let span = parts.span;
-    let a = report_type(tree, index, out, ty, span, sink);
+    let a = report_type(tree, index, out, parts.ty, parts.span, sink);
     let said = check_range(tree, index, scratch, out, 9 - left, at + 4, a);
-    scopes::enter_loop(scratch, 9 - left, parts.name, ty, span);
+    scopes::enter_loop(scratch, 9 - left, parts.name, parts.ty, parts.span);
     After {
         next: parts.body_at,
         sink: said,

@@ -1,0 +1,5 @@
+use Rattle.std.proofs.Common.{refl}
+use Rattle.bodies.proofs.open_condition.Goals as goal
+
+pub returns : goal.returns
+returns c marks = let t = c.require_type-a.ensures in record { at = t.next; keys = refl; marks = refl; emitted = t.emitted; becomes = c.enter.ensures }
