@@ -12,8 +12,9 @@ check_program-requires c = (file-accepted _ (sym c.in-Accepted.is ∙ c.validate
 
 pub returns-in-Refused : goal.returns-in-Refused
 returns-in-Refused c =
-    judged-refused _ _ _ _
-    (file-refused _ _ _ (sym c.in-Refused.is ∙ c.validate.ensures) ∙ ap (λ n. refused n c.in-Refused.place) (sym c.refusal_by.ensures))
+    rw c.at.ensures
+    (judged-refused _ _ _ _
+    (file-refused _ _ _ (sym c.in-Refused.is ∙ c.validate.ensures) ∙ ap (λ n. refused n c.in-Refused.place) (sym c.refusal_by.ensures)))
 
 pub returns-in-Accepted : goal.returns-in-Accepted
 returns-in-Accepted c = judged-program _ _ _ _ _ _ (file-accepted _ (sym c.in-Accepted.is ∙ c.validate.ensures)) c.check_program.ensures
