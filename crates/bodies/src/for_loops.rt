@@ -6,6 +6,7 @@ ghost use Rattle.tree.specs.Stmts.{stmt, held, for_range};
 ghost use Rattle.tree.specs.Decode.{texts_of};
 ghost use Rattle.sema.specs.Stmts.{step_says};
 ghost use Rattle.context.specs.Sink.{SinkFits};
+ghost use Rattle.context.specs.Given.{texts, scopes, functions};
 ghost use Rattle.context.specs.View.{scopes_of, functions_of, TextsAt};
 ghost use Rattle.promises.specs.Emitted.{Emitted};
 ghost use Rattle.promises.specs.Typings.{plain_context};
@@ -15,7 +16,7 @@ use accepted::numbers::{span_at, u16_at};
 use accepted::parts::skip_range;
 use accepted::stmts::skip_body;
 use ast::ClassicalType;
-use context::{Index, Sink};
+use context::{SemaContext, Sink};
 use lines::{Message, Place};
 use scopes::type_at;
 use span::Span;
@@ -49,15 +50,14 @@ pub fn for_parts(tree: &[u8], at: usize, left: usize) -> ForParts
 // The variable of a `for` must be an int.
 #[tactic(auto, using(crate::proofs::Loops::variables))]
 pub fn report_type(
-    tree: &[u8],
-    index: &Index,
+    sema: SemaContext<'_>,
     out: &mut [u8],
     ty: ClassicalType,
     span: Span,
     sink: Sink,
 ) -> Sink
-    requires { TextsAt tree.now index.now × SinkFits sink }
-    ensures { Emitted (texts_of tree.now) (variable_says ty span) sink out.old result out.new }
+    requires { SinkFits sink }
+    ensures { Emitted (texts sema.entry) (variable_says ty span) sink out.old result out.new }
 {
     if ty == ClassicalType::Int {
         return sink;
@@ -65,35 +65,24 @@ pub fn report_type(
     lines::report(
         out,
         sink,
-        tree,
-        index,
+        sema.tree,
+        sema.index,
         lines::error(Message::ForVariable, span),
     )
 }
 
 // The step of a range, where there is one.
 #[tactic(auto, using(crate::proofs::Loops::steps))]
-fn check_step(
-    tree: &[u8],
-    index: &Index,
-    scratch: &[u8],
-    out: &mut [u8],
-    depth: usize,
-    at: usize,
-    sink: Sink,
-) -> Sink
-    requires { TextsAt tree.now index.now × (65536 ≤ length scratch.now) × (depth ≤ 9) × SinkFits sink × IsOk (option (held (texts_of tree.now)) tree.now at) }
-    ensures { Emitted (texts_of tree.now) (given [] (step_says (plain_context (scopes_of scratch.now depth) (functions_of scratch.now))) (option (held (texts_of tree.now)) tree.now at)) sink out.old result out.new }
+fn check_step(sema: SemaContext<'_>, out: &mut [u8], at: usize, sink: Sink) -> Sink
+    requires { SinkFits sink × IsOk (option (held (texts sema)) sema.tree.now at) }
+    ensures { Emitted (texts sema.entry) (given [] (step_says (plain_context (scopes sema.entry) (functions sema.entry))) (option (held (texts sema.entry)) sema.entry.tree.now at)) sink out.old result out.new }
 {
-    if tree[at] == 0 {
+    if sema.tree[at] == 0 {
         return sink;
     }
     typing::require_type(
-        tree,
-        index,
-        scratch,
+        sema,
         out,
-        depth,
         at + 1,
         ClassicalType::Int,
         Place::RangeStep,
@@ -104,39 +93,18 @@ fn check_step(
 
 // The bounds of a range, and its step.
 #[tactic(auto, using(crate::proofs::Loops::ranges))]
-pub fn check_range(
-    tree: &[u8],
-    index: &Index,
-    scratch: &[u8],
-    out: &mut [u8],
-    depth: usize,
-    at: usize,
-    sink: Sink,
-) -> Sink
-    requires { TextsAt tree.now index.now × (65536 ≤ length scratch.now) × (depth ≤ 9) × SinkFits sink × IsOk (for_range (texts_of tree.now) tree.now at) }
-    ensures { Emitted (texts_of tree.now) (given [] (bounds_say (plain_context (scopes_of scratch.now depth) (functions_of scratch.now))) (for_range (texts_of tree.now) tree.now at)) sink out.old result out.new }
+pub fn check_range(sema: SemaContext<'_>, out: &mut [u8], at: usize, sink: Sink) -> Sink
+    requires { SinkFits sink × IsOk (for_range (texts sema) sema.tree.now at) }
+    ensures { Emitted (texts sema.entry) (given [] (bounds_say (plain_context (scopes sema.entry) (functions sema.entry))) (for_range (texts sema.entry) sema.entry.tree.now at)) sink out.old result out.new }
 {
-    let a = typing::require_type(
-        tree,
-        index,
-        scratch,
-        out,
-        depth,
-        at,
-        ClassicalType::Int,
-        Place::RangeBound,
-        sink,
-    );
+    let a = typing::require_type(sema, out, at, ClassicalType::Int, Place::RangeBound, sink);
     let b = typing::require_type(
-        tree,
-        index,
-        scratch,
+        sema,
         out,
-        depth,
         a.next,
         ClassicalType::Int,
         Place::RangeBound,
         a.sink,
     );
-    check_step(tree, index, scratch, out, depth, b.next, b.sink)
+    check_step(sema, out, b.next, b.sink)
 }

@@ -6,6 +6,7 @@ ghost use Rattle.tree.specs.Exprs.{name};
 ghost use Rattle.tree.specs.Stmts.{stmt};
 ghost use Rattle.tree.specs.Decode.{texts_of};
 ghost use Rattle.context.specs.Sink.{SinkFits};
+ghost use Rattle.context.specs.Given.{texts};
 ghost use Rattle.context.specs.View.{gates_of, TextsAt};
 ghost use Rattle.accepted.specs.Parts.{value_or};
 ghost use Rattle.promises.specs.Emitted.{Emitted};
@@ -15,7 +16,7 @@ ghost use Rattle.bodies.specs.Parts.{GatePartsOf, GateEntered};
 use accepted::numbers::{span_at, u16_at};
 use accepted::parts::skip_names;
 use accepted::stmts::skip_body;
-use context::{GateSig, Index, Sink};
+use context::{GateSig, SemaContext, Sink};
 use lines::Message;
 use span::Span;
 
@@ -47,26 +48,18 @@ pub fn gate_parts(tree: &[u8], at: usize, left: usize) -> GateParts
 
 // A name that a gate has is reported, and the definition replaces the other.
 #[tactic(auto, using(crate::proofs::Gates::reports))]
-pub fn report_gate(
-    tree: &[u8],
-    index: &Index,
-    scratch: &[u8],
-    out: &mut [u8],
-    x: usize,
-    span: Span,
-    sink: Sink,
-) -> Sink
-    requires { TextsAt tree.now index.now × (65536 ≤ length scratch.now) × SinkFits sink × (x < length (texts_of tree.now)) }
-    ensures { Emitted (texts_of tree.now) (gate_known (gates_of scratch.now) x span) sink out.old result out.new }
+pub fn report_gate(sema: SemaContext<'_>, out: &mut [u8], x: usize, span: Span, sink: Sink) -> Sink
+    requires { SinkFits sink × (x < length (texts sema)) }
+    ensures { Emitted (texts sema.entry) (gate_known (gates_of sema.entry.scratch.now) x span) sink out.old result out.new }
 {
-    if tables::gate(scratch, x).is_none() {
+    if tables::gate(sema.scratch, x).is_none() {
         return sink;
     }
     lines::report(
         out,
         sink,
-        tree,
-        index,
+        sema.tree,
+        sema.index,
         lines::error(Message::GateAlreadyDefined(x), span),
     )
 }

@@ -16,7 +16,7 @@ ghost use Rattle.promises.specs.Walks.{state_of};
 ghost use Rattle.bodies.specs.Opened.{GateOpened, ConditionOpened, ForOpened};
 
 use ast::ClassicalType;
-use context::{After, Index, Sink};
+use context::{After, Index, SemaContext, Sink};
 use for_loops::{check_range, for_parts, report_type};
 use gate_defs::{define_gate, gate_parts, report_gate};
 use lines::Place;
@@ -36,7 +36,13 @@ pub fn open_gate(
     ensures { (marks : List ℕ) → GateOpened tree.now left (state_of at sink marks) scratch.old out.old (state_of result.next result.sink marks) scratch.new out.new }
 {
     let parts = gate_parts(tree, at, left);
-    let said = report_gate(tree, index, scratch, out, parts.name, parts.span, sink);
+    let sema = SemaContext {
+        tree,
+        index,
+        scratch,
+        depth: 9 - left,
+    };
+    let said = report_gate(sema, out, parts.name, parts.span, sink);
     define_gate(tree, scratch, 9 - left, at + 3, parts);
     After {
         next: parts.body_at,
@@ -58,22 +64,18 @@ fn open_condition(
     requires { TextsAt tree.now index.now × (length tree.now ≤ 16384) × (65536 ≤ length scratch.old) × SinkFits sink × (at < length tree.now) × IsOk (held (texts_of tree.now) tree.now (at + 1)) × (0 < left) × (left ≤ 8) }
     ensures { (marks : List ℕ) → ConditionOpened (place_of place) tree.now left (state_of at sink marks) scratch.old out.old (state_of result.next result.sink marks) scratch.new out.new }
 {
-    let a = typing::require_type(
+    let sema = SemaContext {
         tree,
         index,
         scratch,
-        out,
-        9 - left,
-        at + 1,
-        ClassicalType::Bool,
-        place,
-        sink,
-    );
+        depth: 9 - left,
+    };
+    let a = typing::require_type(sema, out, at + 1, ClassicalType::Bool, place, sink);
     tables::enter(scratch, 9 - left);
     a
 }
 
-// Each case of a statement has its function, as document 01 asks: an `if` and a `while` are opened alike.
+// Each case of a statement has its function: an `if` and a `while` are opened alike.
 #[tactic(auto, using(crate::proofs::Loops::conditions))]
 pub fn open_if(
     tree: &[u8],
@@ -139,8 +141,14 @@ pub fn open_for(
     ensures { (marks : List ℕ) → ForOpened tree.now left (state_of at sink marks) scratch.old out.old (state_of result.next result.sink marks) scratch.new out.new }
 {
     let parts = for_parts(tree, at, left);
-    let a = report_type(tree, index, out, parts.ty, parts.span, sink);
-    let said = check_range(tree, index, scratch, out, 9 - left, at + 4, a);
+    let sema = SemaContext {
+        tree,
+        index,
+        scratch,
+        depth: 9 - left,
+    };
+    let a = report_type(sema, out, parts.ty, parts.span, sink);
+    let said = check_range(sema, out, at + 4, a);
     scopes::enter_loop(scratch, 9 - left, parts.name, parts.ty, parts.span);
     After {
         next: parts.body_at,

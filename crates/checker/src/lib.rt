@@ -81,10 +81,7 @@ impl File<'_> {
     {
         let first = self.run(index, scratch, stage, 0);
         if first.keys == OVER {
-            return Err(Refused {
-                refusal: Refusal::ManyKeys,
-                place: 0,
-            });
+            return Err(Refusal::ManyKeys.at(0));
         }
         Ok(first.sink)
     }
@@ -309,10 +306,7 @@ fn check_file(tree: &[u8], scratch: &mut [u8], listing: &mut [u8]) -> Answer
     ensures { JudgedFile tree.now scratch.old listing.old result scratch.new listing.new }
 {
     match reader::validate(tree) {
-        Validated::Refused(number, place) => Err(Refused {
-            refusal: refusal_by(number),
-            place,
-        }),
+        Validated::Refused(number, place) => Err(refusal_by(number).at(place)),
         Validated::Accepted => check_program(tree, scratch, listing),
     }
 }
@@ -325,10 +319,7 @@ pub fn check(tree: &[u8], scratch: &mut [u8], listing: &mut [u8]) -> Answer
     ensures billed { (errors warnings size : ℕ) → answer_of result ≡ accepted errors warnings size → Claim tree.now listing.new size }
 {
     if scratch.len() < 65536 {
-        return Err(Refused {
-            refusal: Refusal::ShortScratch,
-            place: 0,
-        });
+        return Err(Refusal::ShortScratch.at(0));
     }
     let answer = check_file(tree, scratch, listing);
     tables::clear(scratch); // whatever the answer

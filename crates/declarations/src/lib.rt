@@ -71,7 +71,7 @@ fn register(
     }
 }
 
-// Each case of a statement has its function, as document 01 asks: a qubit's declaration and a bit's do the same.
+// Each case of a statement has its function: a qubit's declaration and a bit's do the same.
 pub fn qubit_decl(
     tree: &[u8],
     index: &Index,

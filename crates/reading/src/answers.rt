@@ -8,7 +8,7 @@ ghost use Rattle.reading.specs.Answers.{answer, forget, Mapped};
 
 use refusal::{Refusal, Refused};
 
-// An enum and no Result: document 01 has each read taken apart by `let .. else` and its refusal passed up.
+// An enum and no Result: each read is taken apart by `let .. else` and its refusal passed up, a form that the customer names.
 #[derive(Clone, Copy)]
 pub enum Read<T> {
     At(T, usize),

@@ -36,6 +36,17 @@ pub struct Refused {
     pub place: usize,
 }
 
+impl Refusal {
+    pub fn at(self, place: usize) -> Refused
+        ensures { result ≡ record { refusal = self; place = place } }
+    {
+        Refused {
+            refusal: self,
+            place,
+        }
+    }
+}
+
 impl From<Refusal> for u8 {
     ghost from_gives = { λ refusal number. number ≡ number_of refusal };
 

@@ -41,17 +41,11 @@ pub fn judge(sink: Sink, room: usize) -> Answer
     let warnings = usize::from(sink.warnings);
     let count = errors + warnings;
     if 256 < count {
-        return Err(Refused {
-            refusal: Refusal::ManyDiagnostics,
-            place: 0,
-        });
+        return Err(Refusal::ManyDiagnostics.at(0));
     }
     let size = head_size(sink) + n;
     if room < size {
-        return Err(Refused {
-            refusal: Refusal::LongListing,
-            place: 0,
-        });
+        return Err(Refusal::LongListing.at(0));
     }
     Ok(Listed {
         errors,

@@ -1,8 +1,8 @@
 use Rattle.bodies.proofs.Loops.{step-none, step-some}
 use Rattle.bodies.proofs.for_loops.check_step.Goals as goal
 
-pub returns-then-tree-at-eq0 : goal.returns-then-tree-at-eq0
-returns-then-tree-at-eq0 c = step-none _ _ _ _ _ c.requires.4 c.if-tree-at-eq0.true c.requires.3
+pub returns-then-sema-at-eq0 : goal.returns-then-sema-at-eq0
+returns-then-sema-at-eq0 c = step-none _ _ _ _ _ c.requires.1 c.if-sema-at-eq0.true c.requires.0
 
 pub returns : goal.returns
-returns c = step-some _ _ _ _ _ c.requires.4 c.if-tree-at-eq0.false c.require_type.ensures
+returns c = step-some _ _ _ _ _ c.requires.1 c.if-sema-at-eq0.false c.require_type.ensures
