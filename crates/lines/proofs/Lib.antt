@@ -1,9 +1,4 @@
-pub mod Sums
-pub mod Digits
+pub mod Decimals
 pub mod Sink
-pub mod Words
 pub mod Parts
-pub mod Numbers
-pub mod Messages
-pub mod Arms
 pub mod Lines

@@ -1,5 +1,5 @@
 pub mod Values
 pub mod Stored
 pub mod EmitLaws
-pub mod Plans
-pub mod Kinds
+pub mod Readable
+pub mod Parts

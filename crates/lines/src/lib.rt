@@ -1,24 +1,26 @@
 // One diagnostic of the listing: its line, and its note's.
 #![tactic(auto)]
 
+mod messages;
 pub mod pieces;
-mod plans;
-mod tables;
+mod words;
 
-ghost use Rattle.std.specs.Prelude.{◌≡◌, ◌≤◌, ◌<◌, ◌+◌, ◌∷◌, [], length};
+ghost use Rattle.std.specs.Prelude.{◌≡◌, ◌≤◌, ◌<◌, ◌+◌, ◌++◌, ◌∷◌, [], length};
 ghost use Rattle.text.specs.Text.{text};
 ghost use Rattle.text.specs.Decimal.{decimal};
-ghost use Rattle.sema.specs.Messages.{message_text};
 ghost use Rattle.tree.specs.Decode.{texts_of};
-ghost use Rattle.listing.specs.Listing.{ended, spaced, span_line, letter, note_lines};
+ghost use Rattle.listing.specs.Listing.{ended, spaced, letter, note_lines, diagnostic_line};
 ghost use Rattle.context.specs.Sink.{SinkFits};
 ghost use Rattle.context.specs.View.{TextsAt};
-ghost use Rattle.lines.specs.Values.{severity_of, message_of, secondary_of, name_in, Below, NoteBelow, Fits, counted_of, error_of, error_with_note_of, warning_of, Reported};
-ghost use Rattle.lines.specs.Stored.{Wrote, Said};
-ghost use Rattle.lines.specs.Plans.{Lent, Named, line_text};
+ghost use Rattle.lines.specs.Values.{severity_of, diagnostic_of, secondary_of, name_in, Below, NoteBelow, Fits, counted_of, error_of, error_with_note_of, warning_of, Reported};
+ghost use Rattle.lines.specs.Stored.{Wrote, Said, Shown};
+ghost use Rattle.lines.specs.Parts.{head_text};
 
 use ast::ClassicalType;
 use context::{GateOperand, Index, Sink, SymbolKind};
+use itoa::Buffer;
+use pieces::Part::{Number, Words};
+use pieces::{Texts, copy};
 use span::Span;
 
 #[derive(Clone, Copy)]
@@ -104,13 +106,6 @@ pub enum Note {
     FunctionDefined,
 }
 
-// An Option of a note and its span.
-#[derive(Clone, Copy)]
-pub enum Secondary {
-    Some(Note, Span),
-    None,
-}
-
 #[derive(Clone, Copy)]
 pub struct Diagnostic {
     pub severity: Severity,
@@ -152,94 +147,58 @@ pub fn warning(message: Message, span: Span) -> Diagnostic
     }
 }
 
-// How a text is made: the kind says its parts (`tables::row_of`); the words are numbers of phrases.
-#[derive(Clone, Copy)]
-struct Plan {
-    kind: usize,
-    name: usize,
-    first: u64,
-    second: u64,
-    third: u64,
-    word: usize,
-    other: usize,
+#[tactic(auto, unfolding(listing::specs::Listing::letter))]
+fn letter(severity: Severity) -> &'static [u8]
+    ensures { Shown result.now (letter (severity_of severity)) 2 }
+{
+    match severity {
+        Severity::Error => b"E",
+        Severity::Warning => b"W",
+    }
 }
 
-// A line: the letter, the span, what the plan says.
-fn line<'a>(
-    out: &mut [u8],
-    n: usize,
-    tree: &'a [u8],
-    index: &Index,
-    wording: &'a [u8],
-    places: &[u16; 97],
-    letter: u8,
-    span: Span,
-    p: Plan,
-) -> usize
-    requires { (n < 1048576) × Lent wording.now places.now × TextsAt tree.now index.now × Named tree.now index.now p }
-    ensures { Said out.old n out.new result (line_text (texts_of tree.now) letter span p) 512 }
-{
-    let tree = &tree[..];
-    let a = pieces::head(out, n, letter, span);
-    let b = pieces::write(out, a, tree, index, wording, places, p);
-    pieces::copy(out, b, b"\n")
-}
+impl Texts<'_> {
+    // The head of a line: its letter and its span.
+    fn head(self, out: &mut [u8], n: usize, letter: &[u8], span: Span) -> usize
+        requires { (n < 1073741824) × (length letter.now ≤ 2) }
+        ensures { Said out.old n out.new result (head_text letter.now span) 96 }
+    {
+        self.say(
+            out,
+            n,
+            &[
+                Words(letter),
+                Words(b" "),
+                Number(u64::from(span.start)),
+                Words(b" "),
+                Number(u64::from(span.end)),
+                Words(b" "),
+            ],
+        )
+    }
 
-// The note's line, where there is a note.
-fn note_line<'a>(
-    out: &mut [u8],
-    n: usize,
-    tree: &'a [u8],
-    index: &Index,
-    wording: &'a [u8],
-    places: &[u16; 97],
-    secondary: Option<(Note, Span)>,
-) -> usize
-    requires { (n < 1048576) × Lent wording.now places.now × TextsAt tree.now index.now × NoteBelow (length (texts_of tree.now)) secondary }
-    ensures { Said out.old n out.new result (ended (note_lines (texts_of tree.now) (secondary_of secondary))) 512 }
-{
-    let Some((note, span)) = secondary else {
-        return n;
-    };
-    line(
-        out,
-        n,
-        tree,
-        index,
-        wording,
-        places,
-        b'N',
-        span,
-        plans::note_plan(note),
-    )
-}
+    // The message's line.
+    fn message_line(self, out: &mut [u8], n: usize, d: Diagnostic) -> usize
+        requires { (n < 1048576) × Below (length (texts_of self.tree.now)) (name_in d.message) }
+        ensures { Said out.old n out.new result (ended (diagnostic_line (texts_of self.entry.tree.now) (diagnostic_of d) ∷ [])) 512 }
+    {
+        let a = self.head(out, n, letter(d.severity), d.span);
+        let b = self.message(out, a, d.message);
+        copy(out, b, b"\n")
+    }
 
-// The message's line.
-fn message_line<'a>(
-    out: &mut [u8],
-    n: usize,
-    tree: &'a [u8],
-    index: &Index,
-    wording: &'a [u8],
-    places: &[u16; 97],
-    severity: Severity,
-    span: Span,
-    message: Message,
-) -> usize
-    requires { (n < 1048576) × Lent wording.now places.now × TextsAt tree.now index.now × Below (length (texts_of tree.now)) (name_in message) }
-    ensures { Said out.old n out.new result (ended (span_line (letter (severity_of severity)) span (message_text (texts_of tree.now) (message_of message)) ∷ [])) 512 }
-{
-    line(
-        out,
-        n,
-        tree,
-        index,
-        wording,
-        places,
-        plans::letter_of(severity),
-        span,
-        plans::message_plan(message),
-    )
+    // The note's line, where there is a note.
+    fn note_line(self, out: &mut [u8], n: usize, secondary: Option<(Note, Span)>) -> usize
+        requires { (n < 1048576) × NoteBelow (length (texts_of self.tree.now)) secondary }
+        ensures { Said out.old n out.new result (ended (note_lines (texts_of self.entry.tree.now) (secondary_of secondary))) 512 }
+    {
+        let Some((note, span)) = secondary else {
+            return n;
+        };
+        let a = self.head(out, n, b"N", span);
+        let b = self.note(out, a, note);
+        copy(out, b, b"\n")
+    }
 }
 
 // One diagnostic more, and the listing's length.
@@ -252,12 +211,12 @@ fn counted(sink: Sink, severity: Severity, n: usize) -> Sink
         Severity::Error => Sink {
             n,
             errors: sink.errors + 1,
-            warnings: sink.warnings,
+            ..sink
         },
         Severity::Warning => Sink {
             n,
-            errors: sink.errors,
             warnings: sink.warnings + 1,
+            ..sink
         },
     }
 }
@@ -267,33 +226,30 @@ pub fn report(out: &mut [u8], sink: Sink, tree: &[u8], index: &Index, d: Diagnos
     requires { TextsAt tree.now index.now × Fits (length (texts_of tree.now)) d × SinkFits sink }
     ensures { Reported (texts_of tree.now) d sink out.old result out.new }
 {
-    let tree = &tree[..];
-    let n = sink.n as usize;
-    let errors = sink.errors;
-    let warnings = sink.warnings;
-    if 256 < errors + warnings {
+    if 256 < sink.errors + sink.warnings {
         return sink;
     }
-    let severity = d.severity;
-    let span = d.span;
-    let message = d.message;
-    let secondary = d.secondary;
-    let wording = tables::WORDING;
-    let places = tables::PHRASE_AT;
-    let a = message_line(
-        out, n, tree, index, &wording, &places, severity, span, message,
-    );
-    let b = note_line(out, a, tree, index, &wording, &places, secondary);
-    counted(sink, severity, b)
+    let texts = Texts { tree, index };
+    let a = texts.message_line(out, sink.n as usize, d);
+    let b = texts.note_line(out, a, d.secondary);
+    counted(sink, d.severity, b)
+}
+
+// Stores a number in decimal.
+fn number(out: &mut [u8], n: usize, v: u16) -> usize
+    requires { n < 4294967296 }
+    ensures { Said out.old n out.new result (decimal v) 5 }
+{
+    copy(out, n, Buffer::new().format(v).as_bytes())
 }
 
 // The listing's first line, from place 0 on. The answer is its length.
 pub fn first_line(out: &mut [u8], errors: u16, warnings: u16) -> usize
     ensures { Wrote out.old 0 out.new result (ended (spaced (text "list") (decimal errors ∷ decimal warnings ∷ []) ∷ [])) }
 {
-    let a = pieces::copy(out, 0, b"list ");
-    let b = pieces::number(out, a, errors as u64);
-    let c = pieces::copy(out, b, b" ");
-    let d = pieces::number(out, c, warnings as u64);
-    pieces::copy(out, d, b"\n")
+    let a = copy(out, 0, b"list ");
+    let b = number(out, a, errors);
+    let c = copy(out, b, b" ");
+    let d = number(out, c, warnings);
+    copy(out, d, b"\n")
 }

@@ -1,0 +1,7 @@
+-- The text with a number can be read.
+use Rattle.std.specs.Prelude.{ℕ, ◌<◌, List}
+use Rattle.context.specs.View.{TextAt}
+
+pub record Readable (tree index : List ℕ) (x : ℕ) : Type 0 where
+  pub inside : x < 768
+  pub text_at : TextAt tree index x
