@@ -26,13 +26,12 @@ use Rattle.context.specs.declared.Sink.{Sink}
 use Rattle.context.specs.declared.Typing.{Typing}
 use Rattle.context.specs.declared.State.{State}
 use Rattle.context.specs.Values.{typed_of}
-use Rattle.context.specs.View.{TextsAt, number_at, span_at, scopes_of, functions_of}
+use Rattle.context.specs.View.{number_at, span_at, scopes_of, functions_of}
 use Rattle.promises.specs.Emitted.{Emitted, emitted_then, emitted_as}
 use Rattle.promises.specs.Typings.{TypingOf}
 use Rattle.promises.specs.Walks.{state_of, Ready, StmtWalked}
 use Rattle.promises.specs.WalkLaws.{marks-kept, context_is, same-walked}
 use Rattle.declarations.specs.Says.{spanned, target_by}
-use Rattle.declarations.specs.Checked.{Valued}
 use Rattle.accepted.specs.Spans.{span-here, span-room}
 
 -- of the value only its span matters
@@ -74,20 +73,10 @@ module _ {t : List Text} {ss : Symbols} {fs : Table FunctionSig} (left : ℕ) (t
   checked-span : span_at tree (r.next - 8) ≡ expr_span (value_or blank (expr t left tree at))
   checked-span = span-here t left tree at h _ p.next
 
-  checked-long : 8 ≤ r.next
-  checked-long = span-room t left tree at h _ p.next
-
-  checked-inside : r.next ≤ length tree
-  checked-inside = rw p.next (expr-end t left tree at h)
-
   -- and the type that is expected
   pub checked-mismatch : {q : Sink} {o'' : List ℕ} (m : ClassicalType → Messages.Message) (expected : ClassicalType) → Emitted t (mismatch (λ actual. error (m actual) (span_at tree (r.next - 8))) expected (typed_of r.typed)) r.sink o' q o''
       → Emitted t ((check_expr ss fs (value_or blank (expr t left tree at))).says ++ mismatch (λ actual. error (m actual) (expr_span (value_or blank (expr t left tree at)))) expected (check_expr ss fs (value_or blank (expr t left tree at))).type) s o q o''
   checked-mismatch m expected e = emitted_then checked-says (emitted_as e (rw (checked-span, checked-type)))
-
--- such a value beside a name
-pub valued : {ss : Symbols} {fs : Table FunctionSig} {tree index : List ℕ} {x : ℕ} (left at : ℕ) {s : Sink} {o : List ℕ} {r : Typing} {o' : List ℕ} → TextsAt tree index → x < length (texts_of tree) → IsOk (expr (texts_of tree) left tree at) → TypingOf (texts_of tree) ss fs (expr (texts_of tree) left tree at) s o r o' → Valued tree index x r
-valued left at t n h p = record { texts = t; named = n; long = checked-long _ _ _ h p; inside = checked-inside _ _ _ h p; fits = p.emitted.fits }
 
 module _ (tree index : List ℕ) (keys left : ℕ) (st : State) (h : IsOk (stmt (texts_of tree) left tree st.at)) (b : get_or tree st.at 0 ≡ 4) where
   pub assignment-walked : {s o : List ℕ} {t : Typing} {o' : List ℕ} {r : Sink} {o'' : List ℕ} (x : ℕ) (op : AssignOp) (sp : Span) → Ready tree s st → TypingOf (texts_of tree) (scopes_of s (9 - left)) (functions_of s) (held (texts_of tree) tree (st.at + 4)) st.sink o t o'
