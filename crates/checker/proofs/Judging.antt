@@ -17,8 +17,8 @@ use Rattle.sema.specs.Keys.{keys}
 use Rattle.sema.specs.Stmts.{analyze}
 use Rattle.listing.specs.Listing.{ended, first_line, listing_of}
 use Rattle.answer.specs.Answer.{Answer, accepted, refusal, judge_diagnostics, judge_program, judge_file, answer, listing_file, listing_after, scratch_after}
-use Rattle.reader.specs.Answers.{validated}
-use Rattle.reader.specs.declared.Validated.{Validated}
+use Rattle.std.specs.Prelude.{Some, None}
+use Rattle.reader.specs.Answers.{refusal_of}
 use Rattle.context.specs.declared.Sink.{Sink}
 use Rattle.lines.specs.EmitLaws.{listing-stored}
 use Rattle.tables.specs.Tables.{cleared}
@@ -87,18 +87,16 @@ module _ (p : Program) (few : length (keys p) ≤ key_limit) (t : List Text) (e 
       })
 
 -- of a file
-no_variant : {C : Type 0} {n q : ℕ} → Validated.Refused n q ≡ Validated.Accepted → C
-no_variant e = let z : ◌≡◌ {A = ℕ} 0 1 = cc in absurd (omega arith)
+pub file-refused : (x : Ans Program) (n q : ℕ) → Some (n, q) ≡ refusal_of x → x ≡ refused n q
+file-refused (ok p next) n q e = absurd cc
+file-refused (refused m r) n q e =
+    let w : ◌≡◌ {A = ℕ × ℕ} (n, q) (m, r) = cc in
+    rw (ap (λ (p : ℕ × ℕ). p.0) w, ap (λ (p : ℕ × ℕ). p.1) w)
 
-pub file-refused : (x : Ans Program) (n q : ℕ) → Validated.Refused n q ≡ validated x → x ≡ refused n q
-unfolding validated
-file-refused (ok p next) n q e = no_variant e
-file-refused (refused m r) n q e = let a : n ≡ m = cc in let b : q ≡ r = cc in rw (a, b)
-
-pub file-accepted : (x : Ans Program) → Validated.Accepted ≡ validated x → IsOk x
-unfolding validated IsOk
+pub file-accepted : (x : Ans Program) → None ≡ refusal_of x → IsOk x
+unfolding IsOk
 file-accepted (ok p next) e = tt
-file-accepted (refused m r) e = no_variant (sym e)
+file-accepted (refused m r) e = absurd cc
 
 pub judged-refused : (tree s l : List ℕ) (n q : ℕ) → decode tree ≡ refused n q → JudgedFile tree s l (AnswerValue.Refused n q) s l
 unfolding judge_file listing_after

@@ -17,7 +17,6 @@ ghost use Rattle.verdict.specs.Verdict.{answer_of, Learnt, Listable};
 ghost use Rattle.checker.specs.Check.{SameRest, Judged, JudgedFile, Ran, Staged, Told};
 
 use context::{Index, Sink, State};
-use reader::Validated;
 use sheet::new_keys::OVER;
 use verdict::Answer;
 
@@ -149,10 +148,9 @@ fn check_file(tree: &[u8], scratch: &mut [u8], listing: &mut [u8]) -> Answer
     requires { 65536 ≤ length scratch.old }
     ensures { JudgedFile tree.now scratch.old listing.old result scratch.new listing.new }
 {
-    let v = reader::validate(tree);
-    match v {
-        Validated::Refused(number, place) => Answer::Refused(number, place),
-        Validated::Accepted => check_program(tree, scratch, listing),
+    match reader::validate(tree) {
+        Ok(()) => check_program(tree, scratch, listing),
+        Err(refused) => Answer::Refused(u8::from(refused.refusal), refused.place),
     }
 }
 
