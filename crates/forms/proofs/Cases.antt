@@ -1,13 +1,11 @@
 -- Expressions by their levels, and the cases of expressions and modifiers. Assumes nothing.
-use Rattle.std.proofs.Common.{◌≡◌, refl, sym, ap, ◌∙◌, ℕ, zero, suc, ◌+◌, ◌-◌, ◌<◌, ◌≤◌, ◌⊎◌, inl, inr, Bool, true, false, List, [], ◌∷◌, length, get_or, ltb, sub-one, arith}
+use Rattle.std.proofs.Common.{◌≡◌, refl, sym, ap, ◌∙◌, ℕ, zero, suc, ◌-◌, ◌≤◌, List, [], ◌∷◌, get_or, sub-one, arith}
 use native.Mathlib.Decide.{ℕ_discrete}
-use borrow.Author.Tests.{lt-ltb, le-ltb}
-use Rattle.text.proofs.Order.{le-or-lt}
 use Rattle.span.specs.declared.Span.{Span}
 use Rattle.ast.specs.Tree.{Text, GateModifier}
-use Rattle.tree.specs.Ans.{Ans, ok, refused, bind, ◌>>=◌, ◌>>◌, here, check, done, refuse}
+use Rattle.tree.specs.Ans.{Ans, ok, refused, bind, ◌>>=◌, here, done, refuse}
 use Rattle.ast.specs.declared.ClassicalQualifier.TheVariants.{Const, Input, Output}
-use Rattle.tree.specs.Read.{byte, within, span, case_byte, one_of}
+use Rattle.tree.specs.Read.{span, case_byte, one_of}
 use Rattle.tree.specs.Stmts.{qualifier, inv}
 use Rattle.tree.specs.Exprs.{binary, compare, expr_cases, expr}
 use Rattle.reading.specs.Answers.{forget}

@@ -1,5 +1,5 @@
 -- The texts of a file, once they are read. Assumes nothing.
-use Rattle.std.proofs.Common.{◌≡◌, refl, ℕ, ◌≤◌, List, []}
+use Rattle.std.proofs.Common.{◌≡◌, ℕ, List}
 use Rattle.ast.specs.Tree.{Text}
 use Rattle.tree.specs.Ans.{ok, given}
 use Rattle.tree.specs.Texts.{texts}

@@ -1,6 +1,5 @@
 -- What a case byte that was read tells. Assumes nothing.
-use Rattle.std.proofs.Common.{◌≡◌, ℕ, ◌+◌, ◌<◌, ◌≤◌, ◌⊎◌, inl, inr, List, length, get_or, ltb}
-use borrow.Author.Tests.{lt-ltb, le-ltb}
+use Rattle.std.proofs.Common.{◌≡◌, ℕ, ◌+◌, ◌<◌, ◌≤◌, ◌⊎◌, inl, inr, List, length, get_or}
 use Rattle.text.proofs.Order.{le-or-lt}
 use Rattle.tree.specs.Ans.{ok, refused}
 use Rattle.tree.specs.Read.{case_byte}

@@ -240,7 +240,7 @@ module _ (s : List ℕ) (kinds : List Spelling) (sums : List ℕ) (met : List Bo
               done-few = omega arith;
               few = going.few;
               place = rw add-one (past_more s i 2 ∙ rw going.place (sym told.2));
-              remain = remain-more h ∙ rw (text_is, t, add-one, texts-more s i 2, going.place) refl;
+              remain = remain-more h ∙ rw (text_is, t, add-one i, texts-more s i 2, going.place) refl;
               kept = rw (add-one, take-suc-set kinds i v l, texts-more s i 2, map-append, going.kept, going.place, told.1) refl;
               long = length-set kinds i v ∙ going.long;
               summed = rw (add-one, take-suc-set sums i w m, texts-more s i 2, map-append, going.summed, going.place, u, part_is) refl;

@@ -4,7 +4,6 @@ use Rattle.std.specs.List.{list_any}
 use Rattle.std.specs.Cmp.Lexicographic.{pointwise}
 use borrow.Author.Tests.{ne_eqb, eqb-true, eqb-false}
 use lib.Seq.{drop-cons}
-use lib.ListN.{drop_of_length-le}
 use Rattle.text.specs.Text.{same}
 use Rattle.ast.specs.Tree.{Text}
 use Rattle.tree.specs.Texts.{among, text_at, past}
@@ -67,9 +66,6 @@ pub record Looking (s : List ℕ) (x : Text) (sums : List ℕ) (k : ℕ) (rest :
   pub summed : rest ≡ map checksum (texts_from s (length rest) k)
   pub remain : among x (texts_from s (length sums) 2) ≡ among x (texts_from s (length rest) k)
 
-pub looking-start : (s : List ℕ) (x : Text) (sums : List ℕ) → past_texts s (length sums) 2 ≤ length s → sums ≡ map checksum (texts_from s (length sums) 2) → Looking s x sums 2 sums
-looking-start s x sums l e = record { within = l; summed = e; remain = refl }
-
 module _ (s : List ℕ) (x : Text) (sums : List ℕ) (k i : ℕ) (looking : Looking s x sums k (drop i sums)) where
   module _ (h : i < length sums) where
     next : Looking s x sums k (get_or sums i 0 ∷ drop (i + 1) sums)
@@ -91,7 +87,3 @@ module _ (s : List ℕ) (x : Text) (sums : List ℕ) (k i : ℕ) (looking : Look
       pub looking-more : r ≡ false → (m : ℕ) → m ≡ past s k → Looking s x sums m (drop (i + 1) sums)
       unfolding texts_from past_texts among
       looking-more t m f = rw f (record { within = next.within; summed = (let e = next.summed in cc); remain = next.remain ∙ rw (← g, t) refl })
-
-  pub looking-none : length sums ≤ i → false ≡ among x (texts_from s (length sums) 2)
-  unfolding among texts_from
-  looking-none h = sym (looking.remain ∙ rw (drop_of_length-le sums h) refl)

@@ -14,7 +14,7 @@ pub enum Spelling {
 }
 
 // A checksum is below 2^48.
-const SUM_LIMIT: u64 = 281474976710656;
+const SUM_LIMIT: u64 = 1 << 48;
 
 fn is_letter(c: u8) -> bool
     ensures { result ≡ letter c }

@@ -23,11 +23,10 @@ const TEXT_LIMIT: u8 = 64;
 // A table of 2^10 slots says which checksums were met.
 const SLOTS: usize = 1024;
 
-// 2^22: of 32 bits it leaves the first ten.
-const FIRST_BITS: u64 = 4194304;
+// Of 32 bits it leaves the first ten.
+const FIRST_BITS: u64 = 1 << 22;
 
-// 2^32.
-const HALF: u64 = 4294967296;
+const HALF: u64 = 1 << 32;
 
 // The golden section of 2^32: it spreads near numbers.
 const SPREAD: u64 = 2654435769;

@@ -13,3 +13,7 @@ unfolding kind_read text among byte bytes within here check done bind
 returns-then-eq c =
     let fine = kind_allowed _ _ c.kind-kind.ensures _ c.eq.ensures c.if-eq.true c.in-At.start c.args.s.now (c.in-At.start + c.from.result) in
     grind (arith, common_steps, steps, fine)
+
+pub returns-in_default : goal.returns-in_default
+unfolding kind_read text among byte bytes within here check done bind
+returns-in_default c = grind (arith, common_steps, steps)
