@@ -88,7 +88,7 @@ said None = (0, 0)
 
 pub file-refused : (x : Ans Program) (r : Refused) → told (Err r) ≡ refusal_of x → x ≡ refused (number_of r.refusal) r.place
 file-refused (ok p next) r e = absurd (false≢true (sym (ap is_some e)))
-file-refused (refused m q) r e = let i = ap said e in rw (ap (λ (p : ℕ × ℕ). p.0) i, ap (λ (p : ℕ × ℕ). p.1) i)
+file-refused (refused m q) r e = sym (ap (λ (p : ℕ × ℕ). refused p.0 p.1) (ap said e))
 
 pub file-accepted : (x : Ans Program) → None ≡ refusal_of x → IsOk x
 unfolding IsOk
