@@ -3,7 +3,7 @@ use Rattle.std.proofs.Common.{◌≡◌, ℕ, ◌+◌, ◌/◌, ◌%◌, ◌^◌
 use Rattle.std.specs.Fmt.{decimal as written}
 use Rattle.std.proofs.lemmas.Fmt.{decimal_by_steps_wide}
 use Rattle.text.specs.Decimal.{front, decimal}
-use Rattle.lines.specs.Stored.{Wrote, Said, Shown}
+use Rattle.lines.specs.Stored.{Shown}
 
 -- more bound changes nothing
 front_same : (f g m : ℕ) → m ≤ f → m ≤ g → front f m ≡ front g m
@@ -36,8 +36,5 @@ pub decimal-written : (n : ℕ) → n < 10 ^ 64 → written n ≡ decimal n
 decimal-written n h = decimal_by_steps_wide (λ n ds. ds ≡ decimal n) one more n h
 
 -- a number as std writes it
-pub number-shown : {v w : ℕ} {xs : List ℕ} → w < 2 ^ 129 → w ≡ v → xs ≡ written w → length xs ≤ 39 → Shown xs (decimal v) 39
+pub number-shown : {v w k : ℕ} {xs : List ℕ} → w < 2 ^ 129 → w ≡ v → xs ≡ written w → length xs ≤ k → Shown xs (decimal v) k
 number-shown {v} {w} h f e s = record { shows = e ∙ decimal-written w (omega arith) ∙ ap decimal f; short = s }
-
-pub number-said : {v n r k : ℕ} {o o' xs : List ℕ} → v < 65536 → xs ≡ written v → length xs ≤ k → Wrote o n o' r xs → Said o n o' r (decimal v) k
-number-said {v} h e s w = record { wrote = rw (← decimal-written v (omega arith), ← e) w; within = omega (arith, w.after) }

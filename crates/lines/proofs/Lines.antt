@@ -98,8 +98,8 @@ pub report_past : (t : List Text) (d : Diagnostic) (s : Sink) (o : List ℕ) →
 report_past t d s o f h = record { emits = sym (one-past t (diagnostic_of d) (written_of s o) h); fits = f }
 
 -- the pieces of the first line
-pub first_said : (a b : ℕ) {o o₁ o₂ o₃ o₄ o' : List ℕ} {n k₁ k₂ k₃ k₄ r : ℕ} → Wrote o n o₁ k₁ (text "list ") → Wrote o₁ k₁ o₂ k₂ (decimal a) → Wrote o₂ k₂ o₃ k₃ (text " ") → Wrote o₃ k₃ o₄ k₄ (decimal b) → Wrote o₄ k₄ o' r (text "\n") → Wrote o n o' r (ended (spaced (text "list") (decimal a ∷ decimal b ∷ []) ∷ []))
+pub first_said : {a b x y : ℕ} {v w o o₁ o₂ o₃ o₄ o' : List ℕ} {n k₁ k₂ k₃ k₄ r : ℕ} → Wrote o n o₁ k₁ (text "list ") → Shown v (decimal x) 20 → Wrote o₁ k₁ o₂ k₂ v → Wrote o₂ k₂ o₃ k₃ (text " ") → Shown w (decimal y) 20 → Wrote o₃ k₃ o₄ k₄ w → Wrote o₄ k₄ o' r (text "\n") → x ≡ a → y ≡ b → Wrote o n o' r (ended (spaced (text "list") (decimal a ∷ decimal b ∷ []) ∷ []))
 unfolding ended spaced
-first_said a b {o} {o' = o'} {n} {r = r} u v w x y =
-    let e = wrote_then u (wrote_then v (wrote_then w (wrote_then x y))) in
-    subst (λ (l : List ℕ). Wrote o n o' r (text "list " ++ l)) (sym (append_assoc (decimal a) (32 ∷ decimal b) (10 ∷ []))) e
+first_said {a} {b} {o = o} {o' = o'} {n} {r = r} u d v w e x y f g =
+    let s = wrote_then u (wrote_then v (wrote_then w (wrote_then x y))) in
+    rw (← f, ← g, ← d.shows, ← e.shows) (subst (λ (l : List ℕ). Wrote o n o' r (text "list " ++ l)) (sym (append_assoc _ (32 ∷ _) (10 ∷ []))) s)

@@ -27,7 +27,7 @@ part_room (Part.TypeName ty) = 16
 part_room (Part.KindName k) = 16
 part_room (Part.ExpectedName e) = 16
 part_room (Part.PlaceName p) = 32
-part_room (Part.Number v) = 39
+part_room (Part.Number v) = 20
 part_room (Part.Sum a b) = 39
 
 -- parts one after the other

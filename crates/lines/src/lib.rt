@@ -20,7 +20,7 @@ use ast::ClassicalType;
 use context::{GateOperand, Index, Sink, SymbolKind};
 use itoa::Buffer;
 use pieces::Part::{Number, Words};
-use pieces::{Texts, copy};
+use pieces::{Texts, copy, number};
 use span::Span;
 
 #[derive(Clone, Copy)]
@@ -235,21 +235,14 @@ pub fn report(out: &mut [u8], sink: Sink, tree: &[u8], index: &Index, d: Diagnos
     counted(sink, d.severity, b)
 }
 
-// Stores a number in decimal.
-fn number(out: &mut [u8], n: usize, v: u16) -> usize
-    requires { n < 4294967296 }
-    ensures { Said out.old n out.new result (decimal v) 5 }
-{
-    copy(out, n, Buffer::new().format(v).as_bytes())
-}
-
 // The listing's first line, from place 0 on. The answer is its length.
 pub fn first_line(out: &mut [u8], errors: u16, warnings: u16) -> usize
     ensures { Wrote out.old 0 out.new result (ended (spaced (text "list") (decimal errors ∷ decimal warnings ∷ []) ∷ [])) }
 {
+    let mut digits = Buffer::new();
     let a = copy(out, 0, b"list ");
-    let b = number(out, a, errors);
+    let b = copy(out, a, number(u64::from(errors), &mut digits));
     let c = copy(out, b, b" ");
-    let d = number(out, c, warnings);
+    let d = copy(out, c, number(u64::from(warnings), &mut digits));
     copy(out, d, b"\n")
 }

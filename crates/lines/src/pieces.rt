@@ -1,6 +1,7 @@
 // The parts of lines, as pieces of the tree and of the wording, and their storing.
 ghost use Rattle.std.specs.Prelude.{◌<◌, ◌+◌, length};
 ghost use Rattle.std.specs.List.{All};
+ghost use Rattle.text.specs.Decimal.{decimal};
 ghost use Rattle.tree.specs.Decode.{texts_of};
 ghost use Rattle.sema.specs.Messages.{name_at};
 ghost use Rattle.context.specs.View.{TextsAt};
@@ -57,6 +58,13 @@ pub(crate) fn copy(out: &mut [u8], n: usize, s: &[u8]) -> usize
     n + s.len()
 }
 
+// A number in decimal, as its digits in a lent buffer.
+pub(crate) fn number(v: u64, digits: &mut Buffer) -> &[u8]
+    ensures { Shown result.now (decimal v) 20 }
+{
+    digits.format(v).as_bytes()
+}
+
 impl<'a> Texts<'a> {
     ghost use Rattle.lines.specs.Parts.{Named, part_text, part_room, joined, room};
 
@@ -74,7 +82,7 @@ impl<'a> Texts<'a> {
             Part::KindName(kind) => words::kind_name(kind),
             Part::ExpectedName(expected) => words::expected_name(expected),
             Part::PlaceName(place) => words::place_name(place),
-            Part::Number(v) => digits.format(u128::from(v)).as_bytes(),
+            Part::Number(v) => number(v, digits),
             Part::Sum(a, b) => digits.format(u128::from(a) + u128::from(b)).as_bytes(),
         }
     }
@@ -85,9 +93,10 @@ impl<'a> Texts<'a> {
         requires named { All (Named (length (texts_of self.tree.now))) parts.now }
         ensures { Said out.old n out.new result (joined (texts_of self.entry.tree.now) parts.now) (room parts.now) }
     {
+        let mut digits = Buffer::new();
         let mut at = n;
         for part in parts {
-            at = copy(out, at, self.piece(*part, &mut Buffer::new()));
+            at = copy(out, at, self.piece(*part, &mut digits));
         }
         at
     }

@@ -2,10 +2,6 @@ use Rattle.std.proofs.Common.{◌∙◌, arith}
 use Rattle.lines.proofs.Decimals.{number-shown}
 use Rattle.lines.proofs.pieces.Texts.piece.Goals as goal
 
-pub returns-in-Number : goal.returns-in-Number
-returns-in-Number c =
-    rw c.in-Number.is (number-shown (omega arith) c.from.ensures (c.as_bytes.ensures.value ∙ c.format.ensures.text) (omega arith))
-
 pub returns-in-Sum : goal.returns-in-Sum
 returns-in-Sum c =
-    rw c.in-Sum.is (number-shown (omega arith) (omega arith) (c.as_bytes-in-Sum.ensures.value ∙ c.format-in-Sum.ensures.text) (omega arith))
+    rw c.in-Sum.is (number-shown (omega arith) (omega arith) (c.as_bytes.ensures.value ∙ c.format.ensures.text) (omega arith))
