@@ -12,44 +12,44 @@ use lib.Seq.{take-set-le}
 use Rattle.sema.specs.Marks.{Key, key}
 use Rattle.sema.specs.Keys.{same_key, has_key, add_key, add_indices, add_range}
 use Rattle.context.specs.View.{key_by, key_at, keys_from, keys_in}
-use Rattle.sheet.specs.Sheet.{Indexed, position, KeysAdded}
-use Rattle.sheet.specs.Heads.{index_key}
+use Rattle.std.specs.Prelude.{Option as Maybe, Some, None}
+use Rattle.sheet.specs.Sheet.{Indexed, position, KeysAdded, Grown}
 use Rattle.sheet.specs.Places.{by_test, has_here, has_there, position-has, position-none}
 use Rattle.sheet.specs.Table.{none-added, length-keys, add-there, add-new, length-new, AtLeast, more-long, keep-indices, keys-stored, added_full}
 
 -- one key
-module _ (index : List ℕ) (count head i n : ℕ) (t : Indexed index count) (e : n ≡ position (keys_in index count) (key_by head i)) where
+module _ (index : List ℕ) (count : ℕ) (k : Key) (n : ℕ) (t : Indexed index count) (e : n ≡ position (keys_in index count) k) where
   lengths : length (keys_in index count) ≡ count
   lengths = length-keys index 0 count
 
-  pub added-there : n < count → KeysAdded index index count (add_key (keys_in index count) (key_by head i))
+  pub added-there : n < count → Grown index index (Some count) (add_key (keys_in index count) k)
   added-there h =
-      let a = add-there (keys_in index count) (key_by head i) (position-has (keys_in index count) (key_by head i) (omega (arith, lengths))) in
-      rw a (record { counted = omega (arith, lengths, t.few); keys = λ f. refl; texts = refl })
+      let a = add-there (keys_in index count) k (position-has (keys_in index count) k (omega (arith, lengths))) in
+      (rw a (record { counted = omega (arith, lengths, t.few); keys = λ f. refl; texts = refl }), t.few)
 
   module _ (h : count ≤ n) where
-    new : has_key (keys_in index count) (key_by head i) ≡ false
-    new = position-none (keys_in index count) (key_by head i) (omega (arith, lengths))
+    new : has_key (keys_in index count) k ≡ false
+    new = position-none (keys_in index count) k (omega (arith, lengths))
 
-    pub added-over : count ≡ 256 → KeysAdded index index 257 (add_key (keys_in index count) (key_by head i))
+    pub added-over : count ≡ 256 → KeysAdded index index 257 (add_key (keys_in index count) k)
     added-over f =
         record {
-          counted = omega (arith, lengths, length-new (keys_in index count) (key_by head i) new);
+          counted = omega (arith, lengths, length-new (keys_in index count) k new);
           keys = λ g. absurd (omega arith);
           texts = refl;
         }
 
-    pub added_new : (count ≡ 256 → ⊥) → (after : List ℕ) → after ≡ set (set index (256 + 2 * count) head) (256 + 2 * count + 1) i
-        → KeysAdded index after (count + 1) (add_key (keys_in index count) (key_by head i))
-    added_new f after g =
+    pub added_new : (head i : ℕ) → (count ≡ 256 → ⊥) → key_by head i ≡ k → Grown index (set (set index (256 + 2 * count) head) (256 + 2 * count + 1) i) (Some (count + 1)) (add_key (keys_in index count) k)
+    added_new head i f g =
         let l : count < 256 = omega (arith, t.few) in
-        let at = 256 + 2 * count in
-        rw g
-        (record {
-          counted = omega (arith, lengths, length-new (keys_in index count) (key_by head i) new);
-          keys = λ u. rw (add-one count, add-new (keys_in index count) (key_by head i) new) (keys-stored index count head i t.size l);
-          texts = take-set-le 256 (set index at head) (at + 1) i (omega arith) ∙ take-set-le 256 index at head (omega arith);
-        })
+        let at = 256 + 2 * count in (
+          record {
+            counted = omega (arith, lengths, length-new (keys_in index count) k new);
+            keys = λ u. rw (add-one count, add-new (keys_in index count) k new, ← g) (keys-stored index count head i t.size l);
+            texts = take-set-le 256 (set index at head) (at + 1) i (omega arith) ∙ take-set-le 256 index at head (omega arith);
+          },
+          omega arith,
+        )
 
 -- a key that stands at a number is there
 has_at : (index : List ℕ) (n k : ℕ) (l : Key) (j : ℕ) → j < n → same_key (key_at index (k + j)) l ≡ true → has_key (keys_from index k n) l ≡ true
@@ -61,13 +61,13 @@ has_at index (suc n) k l (suc j) h e =
     by_test (same_key (key_at index k) l) (λ t. has_here (key_at index k) (keys_from index (suc k) n) l t)
     (λ t. has_there (key_at index k) (keys_from index (suc k) n) l t ∙ has_at index n (suc k) l j (omega arith) (rw f at e))
 
-pub added-near : (index : List ℕ) (count head i near : ℕ) (r : Bool) → Indexed index count → near < count → r ≡ same_key (key_at index near) (key_by head i) → r ≡ true
-    → KeysAdded index index count (add_key (keys_in index count) (key_by head i))
-added-near index count head i near r t h e f =
+pub added-near : (index : List ℕ) (count : ℕ) (k : Key) (near : ℕ) (r : Bool) → Indexed index count → near < count → r ≡ same_key (key_at index near) k → r ≡ true
+    → Grown index index (Some count) (add_key (keys_in index count) k)
+added-near index count k near r t h e f =
     let ks = keys_in index count in
     let b : 0 + near ≡ near = omega arith in
-    let a = add-there ks (key_by head i) (has_at index count 0 (key_by head i) near h (rw b (sym e ∙ f))) in
-    rw a (none-added index count t)
+    let a = add-there ks k (has_at index count 0 k near h (rw b (sym e ∙ f))) in
+    (rw a (none-added index count t), t.few)
 
 -- the number of a key is at most how many there are
 position-few : (ls : List Key) (k : Key) → position ls k ≤ length ls
@@ -106,36 +106,33 @@ module _ (before : List ℕ) (count x i n m : ℕ) (index : List ℕ) (c j : ℕ
       let g : add_indices (keys_in index c) x (suc (m - (j + 1))) (i + j) ≡ add_range (keys_in before count) x i n = rw e at a.same in
       rw (← f) g
 
-  module _ (head : ℕ) (after : List ℕ) (r : ℕ) (h : j < m) (g : head ≡ 2 * x + 1)
-      (k : KeysAdded index after r (add_key (keys_in index c) (key_by head (i + j)))) where
-    here : key_by head (i + j) ≡ key x (some (i + j))
-    here = rw g (index_key x (i + j))
-
-    pub adding-over : r ≡ 257 → KeysAdded before after 257 (add_range (keys_in before count) x i n)
-    adding-over e =
+  module _ (l : Key) (after : List ℕ) (h : j < m) (here : l ≡ key x (some (i + j))) where
+    pub adding-over : (r : Maybe ℕ) → r ≡ None → KeysAdded index after 257 (add_key (keys_in index c) l) → Grown before after r (add_range (keys_in before count) x i n)
+    adding-over r e k =
         let ks = add_key (keys_in index c) (key x (some (i + j))) in
-        let l : length ks ≤ length (add_indices ks x (m - (j + 1)) (i + (j + 1))) =
+        let far : length ks ≤ length (add_indices ks x (m - (j + 1)) (i + (j + 1))) =
         keep-indices (AtLeast (length ks)) (more-long (length ks)) ks x (m - (j + 1)) (i + (j + 1)) (omega arith) in
-        let u = added_full index after after r ks (rw here at k) e (add_range (keys_in before count) x i n) (rw (next h) at l) in
-        record { counted = u.counted; keys = u.keys; texts = k.texts ∙ a.texts }
+        let u = added_full index after after 257 ks (rw here at k) refl (add_range (keys_in before count) x i n) (rw (next h) at far) in
+        rw e (record { counted = u.counted; keys = u.keys; texts = k.texts ∙ a.texts })
 
-    pub adding-more : length after ≡ length index → (r ≡ 257 → ⊥) → Adding before count x i n m after r (j + 1)
-    adding-more l e =
-        let few : r ≤ 256 = omega (arith, k.counted) in
-        let s : keys_in after r ≡ add_key (keys_in index c) (key x (some (i + j))) = rw here at (k.keys few) in
+    pub adding-more : (r : ℕ) → length after ≡ length index → Grown index after (Some r) (add_key (keys_in index c) l) → Adding before count x i n m after r (j + 1)
+    adding-more r s g =
+        let k = g.0 in
+        let few : r ≤ 256 = g.1 in
+        let q : keys_in after r ≡ add_key (keys_in index c) (key x (some (i + j))) = rw here at (k.keys few) in
         record {
           within = omega arith;
           most = a.most;
-          table = record { size = l ∙ a.table.size; few = few };
-          same = rw s (next h);
+          table = record { size = s ∙ a.table.size; few = few };
+          same = rw q (next h);
           texts = k.texts ∙ a.texts;
         }
 
-  pub adding-end : m ≤ j → KeysAdded before index c (add_range (keys_in before count) x i n)
+  pub adding-end : m ≤ j → Grown before index (Some c) (add_range (keys_in before count) x i n)
   unfolding add_indices
   adding-end h =
       let e : m - j ≡ 0 = omega arith in
       let s : keys_in index c ≡ add_range (keys_in before count) x i n = rw e at a.same in
       let l : length (keys_in index c) ≡ c = length-keys index 0 c in
       let u : length (add_range (keys_in before count) x i n) ≡ c = rw s at l in
-      record { counted = omega (arith, a.table.few); keys = λ w. s; texts = a.texts }
+      (record { counted = omega (arith, a.table.few); keys = λ w. s; texts = a.texts }, a.table.few)

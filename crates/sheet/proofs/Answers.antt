@@ -1,5 +1,5 @@
 -- One law for each way out of the lookups. Assumes nothing.
-use Prim.Native.Nat.{ℕ, zero, suc, ◌+◌, ◌*◌, ◌≤◌, ◌<◌}
+use Prim.Native.Nat.{ℕ, zero, suc, ◌≤◌, ◌<◌}
 use mathlib.Core.Path.{◌≡◌, refl, sym, ◌∙◌}
 use mathlib.Core.List.{List}
 use mathlib.Core.Option.{none, some}
@@ -7,20 +7,15 @@ use borrow.Author.Tests.{le-leb, lt-leb}
 use Rattle.sema.specs.Marks.{Key, key}
 use Rattle.std.specs.Prelude.{Option as Maybe, Some, None}
 use Rattle.context.specs.Values.{number_of}
-use Rattle.context.specs.View.{key_by, place_in}
+use Rattle.context.specs.View.{place_in}
 use Rattle.sheet.specs.Sheet.{first, lookup_in, least_in, by_whole, smallest_in}
-use Rattle.sheet.specs.Heads.{whole-key, index_key}
 use Rattle.sheet.specs.Places.{first-same}
 
 module _ (ks : List Key) (sheet : List ℕ) (x : ℕ) where
-  module _ (i : Maybe ℕ) (head whole j r : ℕ) (w : whole ≡ 2 * x) (e : r ≡ first (place_in ks sheet (key_by head j)) (place_in ks sheet (key_by whole 0))) where
-    pub lookup-whole : i ≡ None → head ≡ whole → j ≡ 0 → r ≡ lookup_in ks sheet x (number_of i)
-    unfolding lookup_in
-    lookup-whole n h z = e ∙ rw (n, h, z, w, whole-key x 0) (first-same (place_in ks sheet (key x none)))
-
-    pub lookup-both : i ≡ Some j → head ≡ 2 * x + 1 → r ≡ lookup_in ks sheet x (number_of i)
-    unfolding lookup_in
-    lookup-both n h = e ∙ rw (n, h, w, whole-key x 0, index_key x j)
+  pub looked_up : (i : Maybe ℕ) (a b : Key) (r : ℕ) → a ≡ key x (number_of i) → b ≡ key x none → r ≡ first (place_in ks sheet a) (place_in ks sheet b) → r ≡ lookup_in ks sheet x (number_of i)
+  unfolding lookup_in
+  looked_up None a b r e f g = g ∙ rw (e, f) (first-same (place_in ks sheet (key x none)))
+  looked_up (Some i) a b r e f g = g ∙ rw (e, f)
 
   module _ (a b : ℕ) where
     pub smallest-none : b < a → None ≡ smallest_in ks sheet x (a, b)
@@ -46,7 +41,5 @@ module _ (ks : List Key) (sheet : List ℕ) (x : ℕ) where
       pub smallest-whole : (p : ℕ) → (w ≡ 0 → ⊥) → p ≡ lookup_in ks sheet x (some a) → Some (a, p) ≡ smallest_in ks sheet x (a, b)
       unfolding smallest_in
       smallest-whole p z f = rw (le-leb a b l, whole-place, ← f) (sym (by_some w (least_in x (a, b) ks sheet) (Some (a, p)) z))
-
-pub ruleset looked_up = (lookup-whole, lookup-both)
 
 pub ruleset least-covered = (smallest-none, smallest-own, smallest-whole)

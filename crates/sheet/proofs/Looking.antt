@@ -10,8 +10,8 @@ use Rattle.sema.specs.Marks.{Key}
 use Rattle.sema.specs.Keys.{same_key, has_key}
 use Rattle.context.specs.View.{key_at, keys_in, place_in}
 use Rattle.sheet.specs.Sheet.{first, Distinct}
-use Rattle.sheet.specs.Places.{by_test, key-eq, place_here, place-there, unplaced, first-none, first_some}
-use Rattle.sheet.proofs.Loops.{rest, rest_more, rest_end, rest_all}
+use Rattle.sheet.specs.Places.{by_test, key-eq, place_here, place-there, unplaced, first_some}
+use Rattle.sheet.proofs.Loops.{rest, rest_more, rest_end}
 
 -- the place of one key
 module _ (b : Bool) (p before : ℕ) where
@@ -67,9 +67,6 @@ pub record Meeting (index : List ℕ) (count : ℕ) (sheet : List ℕ) (key : Ke
   pub same : place_in (keys_in index count) sheet key ≡ first (place_in (rest index count k) (drop k sheet) key) met
 
 module _ (index : List ℕ) (count : ℕ) (sheet : List ℕ) (key : Key) where
-  meeting-start : Distinct (keys_in index count) → Meeting index count sheet key 0 0
-  meeting-start d = record { within = omega arith; distinct = rw (rest_all index count) d; same = rw (rest_all index count) (sym (first-none _)) }
-
   module _ {before k : ℕ} (m : Meeting index count sheet key before k) where
     meeting-more : (met : ℕ) → k < count → met ≡ first (cond (same_key (key_at index k) key) (get_or sheet k 0) 0) before → Meeting index count sheet key met (k + 1)
     unfolding Distinct
@@ -93,9 +90,6 @@ pub record Looking (index : List ℕ) (count : ℕ) (sheet : List ℕ) (a b : Ke
   pub of_other : Meeting index count sheet b other k
 
 module _ (index : List ℕ) (count : ℕ) (sheet : List ℕ) (a b : Key) where
-  pub looking-start : Distinct (keys_in index count) → Looking index count sheet a b 0 0 0
-  looking-start d = record { of_own = meeting-start index count sheet a d; of_other = meeting-start index count sheet b d }
-
   module _ {own other k : ℕ} (l : Looking index count sheet a b own other k) where
     pub looking-more : (own' other' : ℕ) → k < count → own' ≡ first (cond (same_key (key_at index k) a) (get_or sheet k 0) 0) own
         → other' ≡ first (cond (same_key (key_at index k) b) (get_or sheet k 0) 0) other → Looking index count sheet a b own' other' (k + 1)
@@ -105,4 +99,4 @@ module _ (index : List ℕ) (count : ℕ) (sheet : List ℕ) (a b : Key) where
     pub looking-end : (r : ℕ) → count ≤ k → r ≡ first own other → r ≡ first (place_in (keys_in index count) sheet a) (place_in (keys_in index count) sheet b)
     looking-end r h e = rw (← meeting-end index count sheet a l.of_own h, ← meeting-end index count sheet b l.of_other h) e
 
-pub ruleset looking = (looking-start, looking-more, looking-end)
+pub ruleset looking = (looking-more, looking-end)

@@ -8,10 +8,11 @@ use native.Mathlib.Omega.{arith}
 use native.Mathlib.Numerals.{add-one}
 use lib.ListN.{get_or, drop}
 use lib.Dec.{eqb}
+use borrow.Author.Tests.{eq-eqb, ne_eqb}
 use Rattle.sema.specs.Marks.{Key, in_slice}
 use Rattle.sema.specs.Keys.{same_key}
 use Rattle.context.specs.View.{key_at, keys_from, keys_in}
-use Rattle.std.specs.Prelude.{Option as Maybe, Some, None}
+use Rattle.std.specs.Prelude.{Option as Maybe, Some, None, MatchOption, unwrap_or}
 use Rattle.sheet.specs.Sheet.{position, offer, least_in}
 
 -- the keys from number k on
@@ -60,7 +61,26 @@ module _ {index : List ℕ} {count : ℕ} {key : Key} {k : ℕ} (s : Seeking ind
       let p : position (rest index count k) key ≡ 0 = rw (rest_end index count k h) in
       omega (arith, s.same, p)
 
-pub ruleset seeking = (seeking-start, seeking-found, seeking-more, seeking-end)
+-- where `find` over the numbers of the keys gives r
+module _ (index : List ℕ) (count : ℕ) (key : Key) where
+  abbrev pub Is : Bool → ℕ → Type 0
+  Is b k = same_key (key_at index k) key ≡ b
+
+  seeking-to : (k : ℕ) → k ≤ count → ((j : ℕ) → j < k → Is false j) → Seeking index count key k
+  seeking-to zero h f = seeking-start index count key
+  seeking-to (suc k) h f = rw (← add-one k) (seeking-more (seeking-to k (omega arith) (λ j l. f j (omega arith))) false (omega arith) (sym (f k (omega arith))) refl)
+
+  pub found_at : (r : Maybe ℕ) → MatchOption r ((k : ℕ) → 0 ≤ k → k < count → Is false k) (λ i. (0 ≤ i) × (i < count) × Is true i × ((k : ℕ) → 0 ≤ k → k < i → Is false k))
+      → unwrap_or r count ≡ position (keys_in index count) key
+  found_at None h = seeking-end (seeking-to count (omega arith) (λ j l. h j (omega arith) l)) (omega arith)
+  found_at (Some i) h = seeking-found (seeking-to i (omega (arith, h.1)) (λ j l. h.3 j (omega arith) l)) true h.1 (sym h.2) refl
+
+-- a key with no place is not offered
+unmarked : (b : Bool) (o : Option ℕ) (c : Maybe (ℕ × ℕ)) → c ≡ cond b (offer o 0 c) c
+unfolding offer
+unmarked true none c = refl
+unmarked true (some i) c = refl
+unmarked false o c = refl
 
 -- a key more before those that are compared, whether it has a place in the sheet or not
 module _ (x : ℕ) (r : ℕ × ℕ) (l : Key) (ls : List Key) where
@@ -72,16 +92,10 @@ module _ (x : ℕ) (r : ℕ × ℕ) (l : Key) (ls : List Key) where
   least-unplaced [] = refl
   least-unplaced (k ∷ ks) = refl
 
-  same_none : (b : Bool) (o : Option ℕ) → None ≡ cond b (offer o 0 None) None
-  unfolding offer
-  same_none true none = refl
-  same_none true (some i) = refl
-  same_none false o = refl
-
   least_more : (vs : List ℕ) (j : ℕ) → least_in x r (l ∷ ls) (drop j vs) ≡ more-least (get_or vs j 0) (least_in x r ls (drop (suc j) vs))
   unfolding least_in
-  least_more [] zero = rw (least-unplaced ls) (same_none (eqb l.name x && in_slice r l.index) l.index)
-  least_more [] (suc j) = rw (least-unplaced ls) (same_none (eqb l.name x && in_slice r l.index) l.index)
+  least_more [] zero = rw (least-unplaced ls) (unmarked (eqb l.name x && in_slice r l.index) l.index None)
+  least_more [] (suc j) = rw (least-unplaced ls) (unmarked (eqb l.name x && in_slice r l.index) l.index None)
   least_more (v ∷ vs) zero = refl
   least_more (v ∷ vs) (suc j) = least_more vs j
 
@@ -95,7 +109,7 @@ unfolding least_in
 comparing-start index count x a b sheet = record { within = omega arith; same = rw (rest_end index count count (omega arith)) }
 
 module _ {index : List ℕ} {count x a b : ℕ} {sheet : List ℕ} {best : Maybe (ℕ × ℕ)} {k : ℕ} (c : Comparing index count x a b sheet best k) where
-  pub comparing-more : (j : ℕ) (r : Maybe (ℕ × ℕ)) → 0 < k → j ≡ k - 1
+  comparing-more : (j : ℕ) (r : Maybe (ℕ × ℕ)) → 0 < k → j ≡ k - 1
       → r ≡ cond (eqb (key_at index j).name x && in_slice (a, b) (key_at index j).index) (offer (key_at index j).index (get_or sheet j 0) best) best
       → Comparing index count x a b sheet r j
   comparing-more j r h e f =
@@ -107,9 +121,15 @@ module _ {index : List ℕ} {count x a b : ℕ} {sheet : List ℕ} {best : Maybe
         same = f ∙ rw (w, rest_more index count j u, add-one j) (sym (least_more x (a, b) (key_at index j) (rest index count (suc j)) sheet j));
       }
 
-  pub comparing-end : k ≤ 0 → best ≡ least_in x (a, b) (keys_in index count) sheet
-  comparing-end h =
-      let e : k ≡ 0 = omega arith in
-      rw (e, rest_all index count) at c.same
+  module _ (j : ℕ) (l : Key) (h : 0 < k) (e : j ≡ k - 1) (i : l ≡ key_at index j) where
+    pub comparing-name : (r : Maybe (ℕ × ℕ)) → l.name ≡ x → r ≡ cond (in_slice (a, b) l.index) (offer l.index (get_or sheet j 0) best) best → Comparing index count x a b sheet r j
+    comparing-name r n f = comparing-more j r h e (rw (← i, eq-eqb l.name x n) f)
 
-pub ruleset comparing = (comparing-start, comparing-more, comparing-end)
+    pub comparing-other : (l.name ≡ x → ⊥) → Comparing index count x a b sheet best j
+    comparing-other n = comparing-more j best h e (rw (← i, ne_eqb l.name x n))
+
+    pub comparing-unmarked : get_or sheet j 0 ≡ 0 → Comparing index count x a b sheet best j
+    comparing-unmarked f =
+        comparing-more j best h e (rw f (unmarked (eqb (key_at index j).name x && in_slice (a, b) (key_at index j).index) (key_at index j).index best))
+
+pub ruleset comparing = (comparing-start, comparing-name, comparing-other, comparing-unmarked)

@@ -12,12 +12,13 @@ use Rattle.span.specs.declared.Span.{Span}
 use Rattle.ast.specs.Tree.{GateOperand}
 use Rattle.sema.specs.Marks.{Key, apply, clear_measured, unite}
 use Rattle.context.specs.View.{key_at, keys_in, marks_of, measure_span, PlaceOk, Placed}
-use Rattle.sheet.specs.Sheet.{first, stored, united, reaches, touches, measuring, Covers}
+use Rattle.sheet.specs.Sheet.{first, stored, united, measuring, Covers}
 use Rattle.sheet.specs.Effects.{marks-set, marks-clear, marks-united}
 use Rattle.sheet.specs.Table.{length-keys}
 use Rattle.sheet.specs.Kept.{stored-placed, united-placed}
 use Rattle.sheet.specs.Behind.{Blank, stored-behind, united-behind}
-use Rattle.sheet.proofs.Loops.{rest, rest_more, rest_end, rest_all}
+use Rattle.sheet.proofs.Tests.{set_by, cleared_by}
+use Rattle.sheet.proofs.Loops.{rest, rest_more, rest_end}
 
 -- a store at i of what is next
 module _ (r : List ℕ) (i v : ℕ) (h : i < length r) where
@@ -37,54 +38,47 @@ pub record Storing (t : Key → Bool) (p : ℕ) (index : List ℕ) (count : ℕ)
   pub size : length r ≡ 256
   pub same : stored t p (keys_in index count) sheet ≡ take k r ++ stored t p (rest index count k) (drop k r)
 
-module _ (t : Key → Bool) (p : ℕ) (index : List ℕ) (count : ℕ) (sheet : List ℕ) where
-  pub storing-start : count ≤ 256 → length sheet ≡ 256 → Storing t p index count sheet sheet 0
-  storing-start f l = record { within = omega arith; few = f; size = l; same = rw (rest_all index count) }
+module _ {t : Key → Bool} {p : ℕ} {index : List ℕ} {count : ℕ} {sheet r : List ℕ} {k : ℕ} (s : Storing t p index count sheet r k) where
+  storing-more : k < count → Storing t p index count sheet (set r k (cond (t (key_at index k)) p (get_or r k 0))) (k + 1)
+  unfolding stored
+  storing-more h =
+      let v = cond (t (key_at index k)) p (get_or r k 0) in
+      let u : k < length r = omega (arith, s.few, s.size) in
+      record {
+        within = omega arith;
+        few = s.few;
+        size = length-set r k v ∙ s.size;
+        same =
+            s.same
+            ∙ rw (rest_more index count k h, from-here r k 0 u, left_alone r k v u)
+            (one_more r k v u (stored t p (rest index count (k + 1)) (drop (k + 1) r)));
+      }
 
-  module _ (r r' : List ℕ) (k : ℕ) (s : Storing t p index count sheet r k) where
-    storing-more : k < count → r' ≡ set r k (cond (t (key_at index k)) p (get_or r k 0)) → Storing t p index count sheet r' (k + 1)
-    unfolding stored
-    storing-more h e =
-        let v = cond (t (key_at index k)) p (get_or r k 0) in
-        let u : k < length r = omega (arith, s.few, s.size) in
-        rw e
-        (record {
-          within = omega arith;
-          few = s.few;
-          size = length-set r k v ∙ s.size;
-          same =
-              s.same
-              ∙ rw (rest_more index count k h, from-here r k 0 u, left_alone r k v u)
-              (one_more r k v u (stored t p (rest index count (k + 1)) (drop (k + 1) r)));
-        })
+  module _ {r' : List ℕ} {b : Bool} (h : k < count) (e : b ≡ t (key_at index k)) where
+    pub storing-then : b ≡ true → r' ≡ set r k p → Storing t p index count sheet r' (k + 1)
+    storing-then f g = rw g (rw (← e, f) at (storing-more h))
 
-    module _ (b : Bool) (h : k < count) (e : b ≡ t (key_at index k)) where
-      pub storing-then : b ≡ true → r' ≡ set r k p → Storing t p index count sheet r' (k + 1)
-      storing-then f g = storing-more h (rw (← e, f) g)
+    pub storing_else : b ≡ false → r' ≡ r → Storing t p index count sheet r' (k + 1)
+    storing_else f g = rw g (rw (← e, f, set-get_or r k 0) at (storing-more h))
 
-      pub storing_else : b ≡ false → r' ≡ r → Storing t p index count sheet r' (k + 1)
-      storing_else f g = storing-more h (rw (← e, f) (g ∙ sym (set-get_or r k 0)))
-
-    pub storing-end : count ≤ k → r ≡ stored t p (keys_in index count) sheet
-    unfolding stored
-    storing-end h = sym (s.same ∙ rw (rest_end index count k h) (take-append-drop k r))
-
-pub ruleset storing = (storing-start, storing-then, storing_else, storing-end)
+  pub storing-end : count ≤ k → r ≡ stored t p (keys_in index count) sheet
+  unfolding stored
+  storing-end h = sym (s.same ∙ rw (rest_end index count k h) (take-append-drop k r))
 
 module _ (index : List ℕ) (count : ℕ) (sheet : List ℕ) (op : GateOperand) (r : List ℕ) (f : count ≤ 256) (l : length sheet ≡ 256) where
   fits : length (keys_in index count) ≤ length sheet
   fits = omega (arith, length-keys index 0 count)
 
-  pub set-marks : (size : Option ℕ) (p : ℕ) → 0 < p → Covers (keys_in index count) (measuring size op) → r ≡ stored (touches false size op) p (keys_in index count) sheet
+  pub set-marks : (size : Option ℕ) (p : ℕ) → 0 < p → Covers (keys_in index count) (measuring size op) → r ≡ stored (set_by size op) p (keys_in index count) sheet
       → (tree : List ℕ) → marks_of tree (keys_in index count) r ≡ apply (measuring size op) (measure_span tree p) (marks_of tree (keys_in index count) sheet)
-  unfolding measuring touches reaches
+  unfolding measuring
   set-marks size zero h c e tree = absurd (omega arith)
-  set-marks size (suc q) h c e tree = rw e (marks-set tree (touches false size op) (keys_in index count) sheet fits q c)
+  set-marks size (suc q) h c e tree = rw e (marks-set tree (set_by size op) (keys_in index count) sheet fits q c)
 
-  pub clear-marks : (size : Option ℕ) → r ≡ stored (touches true size op) 0 (keys_in index count) sheet
+  pub clear-marks : r ≡ stored (cleared_by op) 0 (keys_in index count) sheet
       → (tree : List ℕ) (sp : Span) → marks_of tree (keys_in index count) r ≡ apply (clear_measured op) sp (marks_of tree (keys_in index count) sheet)
-  unfolding clear_measured touches reaches
-  clear-marks size e tree sp = rw e (marks-clear tree (touches true size op) (keys_in index count) sheet fits sp)
+  unfolding clear_measured
+  clear-marks e tree sp = rw e (marks-clear tree (cleared_by op) (keys_in index count) sheet fits sp)
 
 -- the places of a store
 module _ (ks : List Key) (sheet r : List ℕ) (t : Key → Bool) where
@@ -108,10 +102,7 @@ pub record Uniting (a b r : List ℕ) (i : ℕ) : Type 0 where
   pub right : length b ≡ 256
   pub same : united a b ≡ take i r ++ united (drop i a) (drop i r)
 
-pub uniting-start : (a b : List ℕ) → length a ≡ 256 → length b ≡ 256 → Uniting a b b 0
-uniting-start a b l m = record { within = omega arith; size = m; left = l; right = m; same = refl }
-
-module _ (a b r r' : List ℕ) (i : ℕ) (u : Uniting a b r i) where
+module _ {a b r r' : List ℕ} {i : ℕ} (u : Uniting a b r i) where
   pub uniting-more : i < 256 → r' ≡ set r i (first (get_or a i 0) (get_or r i 0)) → Uniting a b r' (i + 1)
   unfolding united
   uniting-more h e =
@@ -148,4 +139,4 @@ module _ (a b r : List ℕ) (i : ℕ) (u : Uniting a b r i) (h : 256 ≤ i) wher
   pub uniting-behind : (n : ℕ) → Blank n a → Blank n b → Blank n r
   uniting-behind n e f = rw (← all-united) (united-behind a b n e f)
 
-pub ruleset uniting = (uniting-start, uniting-more, uniting-end, uniting-placed, uniting-behind)
+pub ruleset uniting = (uniting-end, uniting-placed, uniting-behind)

@@ -4,15 +4,21 @@ use Rattle.std.proofs.Math.Option.{Option, none, some}
 use Rattle.span.specs.declared.Span.{Span}
 use Rattle.ast.specs.Tree.{TextNumber, GateOperand}
 use Rattle.sema.specs.Limits.{key_limit}
-use Rattle.sema.specs.Marks.{Key, key, Effect, set, keep, in_slice, measures, resets}
+use Rattle.sema.specs.Marks.{Key, key, Effect, set, keep, in_slice, is_index, measures}
 use Rattle.sema.specs.Keys.{same_key, has_key}
 use Rattle.context.specs.View.{place_in, keys_in, key_base, measure_span}
+use Rattle.context.specs.Values.{number_of}
 use Rattle.std.specs.Prelude.{Option as Maybe, Some, None}
+use Rattle.sheet.specs.declared.keys.IndexKey.{IndexKey as KeyValue}
 
 -- an index with room for all keys, and so many keys in it
 pub record Indexed (index : List ℕ) (count : ℕ) : Type 0 where
   pub size : length index ≡ 768
   pub few : count ≤ key_limit
+
+-- the key that the code holds
+abbrev pub key_of : KeyValue → Key
+key_of k = record { name = k.name; index = number_of k.index }
 
 -- the number of the first key that is k, or how many keys there are
 unfoldable pub position : List Key → Key → ℕ
@@ -76,13 +82,12 @@ Covers ks f = (k : Key) → f k ≡ set → has_key ks k ≡ true
 unfoldable pub measuring : Option ℕ → GateOperand → Key → Effect
 measuring size op k = cond (eqb k.name op.name && measures size op.slice op.index k.index) set keep
 
--- one test for both: a measure sets a key of the name, or a reset (all) clears it
-unfoldable pub reaches : Bool → Option ℕ → Option (ℕ × ℕ) → Option ℕ → Option ℕ → Bool
-reaches true size slice index i = resets slice index i
-reaches false size slice index i = measures size slice index i
-
-unfoldable pub touches : Bool → Option ℕ → GateOperand → Key → Bool
-touches all size op k = eqb k.name op.name && reaches all size op.slice op.index k.index
+-- One test for both: a measure sets a key of the name, or a reset clears it. They differ where the operand is a name alone: there
+-- `whole` says so.
+unfoldable pub reaches : Option (ℕ × ℕ) → Option ℕ → Option ℕ → Bool → Bool
+reaches (some r) index i whole = in_slice r i
+reaches none (some j) i whole = is_index j i
+reaches none none i whole = whole
 
 -- a place for each key that passes a test
 unfoldable pub stored : (Key → Bool) → ℕ → List Key → List ℕ → List ℕ
@@ -101,3 +106,8 @@ pub record KeysAdded (before after : List ℕ) (count : ℕ) (ks : List Key) : T
   pub counted : count ≡ min (length ks) (suc key_limit)
   pub keys : count ≤ key_limit → keys_in after count ≡ ks
   pub texts : take key_base after ≡ take key_base before
+
+-- the same with an Option for the count: none where they are too many
+abbrev pub Grown : List ℕ → List ℕ → Maybe ℕ → List Key → Type 0
+Grown before after (Some count) ks = KeysAdded before after count ks × (count ≤ key_limit)
+Grown before after None ks = KeysAdded before after (suc key_limit) ks
