@@ -1,4 +1,4 @@
 pub mod Decimals
 pub mod Sink
-pub mod Parts
+pub mod Texts
 pub mod Lines

@@ -1,5 +1,5 @@
 -- What is said of a message or a note. Assumes nothing.
-use Rattle.std.proofs.Common.{◌≡◌, ℕ, ◌+◌, ◌<◌, ◌≤◌, List, [], ◌∷◌, ◌++◌, Some, None, refl, sym, subst, ◌∙◌, append_assoc, append-nil, add-zero, add-one, arith}
+use Rattle.std.proofs.Common.{length, ◌≡◌, ℕ, ◌+◌, ◌<◌, ◌≤◌, List, [], ◌∷◌, ◌++◌, Some, None, refl, sym, ◌∙◌, append_assoc, append-nil, add-zero, add-one, arith}
 use Rattle.std.specs.Prelude.{Option as Maybe}
 use Rattle.text.specs.Text.{text}
 use Rattle.text.specs.Decimal.{decimal}
@@ -18,7 +18,7 @@ use Rattle.lines.specs.declared.Diagnostic.{Diagnostic}
 use Rattle.lines.specs.Stored.{Wrote, Said, Shown}
 use Rattle.lines.specs.EmitLaws.{ended-append, one-within, one-past}
 use Rattle.lines.specs.Values.{severity_of, message_of, note_of, secondary_of, diagnostic_of, counted_of, Reported}
-use Rattle.lines.specs.Parts.{head_text}
+use Rattle.lines.specs.Texts.{head_text}
 use Rattle.lines.proofs.Sink.{wrote_then}
 
 module _ {o b xs : List ℕ} {n k i : ℕ} where
@@ -45,23 +45,23 @@ module _ (t : List Text) (op : GateOperand) where
   unfolding operand_text subscript
   by-name e f = rw (e, f) refl
 
-line-text : (l xs : List ℕ) (sp : Span) → head_text l sp ++ (xs ++ (10 ∷ [])) ≡ ended (span_line l sp xs ∷ [])
+line-text : (l xs : List ℕ) (sp : Span) → head_text (l ++ (32 ∷ [])) sp ++ (xs ++ (10 ∷ [])) ≡ ended (span_line l sp xs ∷ [])
 unfolding head_text ended span_line spaced
 line-text l xs sp = simp append_assoc
 
 -- head, text and end make a line
-pub line-said : (l xs : List ℕ) (sp : Span) {o o₁ o₂ o₃ : List ℕ} {n a b r : ℕ} → Said o n o₁ a (head_text l sp) 96 → Said o₁ a o₂ b xs 384 → Wrote o₂ b o₃ r (10 ∷ []) → Said o n o₃ r (ended (span_line l sp xs ∷ [])) 512
+pub line-said : (l xs : List ℕ) (sp : Span) {o o₁ o₂ o₃ : List ℕ} {n a b r : ℕ} → Said o n o₁ a (head_text (l ++ (32 ∷ [])) sp) 96 → Said o₁ a o₂ b xs 384 → Wrote o₂ b o₃ r (10 ∷ []) → Said o n o₃ r (ended (span_line l sp xs ∷ [])) 512
 line-said l xs sp u v w =
     record {
       wrote = rw (← line-text l xs sp) (wrote_then u.wrote (wrote_then v.wrote w));
       within = omega (arith, u.within, v.within, w.after);
     }
 
-pub message-line : (t : List Text) (d : Diagnostic) {o o₁ o₂ o₃ l : List ℕ} {n a b r : ℕ} → Shown l (letter (severity_of d.severity)) 2 → Said o n o₁ a (head_text l d.span) 96 → Said o₁ a o₂ b (message_text t (message_of d.message)) 384 → Wrote o₂ b o₃ r (10 ∷ []) → Said o n o₃ r (ended (diagnostic_line t (diagnostic_of d) ∷ [])) 512
+pub message-line : (t : List Text) (d : Diagnostic) {o o₁ o₂ o₃ l : List ℕ} {n a b r : ℕ} → Shown l (letter (severity_of d.severity) ++ (32 ∷ [])) 2 → Said o n o₁ a (head_text l d.span) 96 → Said o₁ a o₂ b (message_text t (message_of d.message)) 384 → Wrote o₂ b o₃ r (10 ∷ []) → Said o n o₃ r (ended (diagnostic_line t (diagnostic_of d) ∷ [])) 512
 unfolding diagnostic_line
-message-line t d e u v w = rw (← e.shows) (line-said _ _ d.span u v w)
+message-line t d {o} {o₁} {n = n} {a} e u v w = line-said _ _ d.span (rw e.shows at u) v w
 
-pub note-line : (t : List Text) {sec : Maybe (Note × Span)} {m : Note} {sp : Span} {o o₁ o₂ o₃ : List ℕ} {n a b r : ℕ} → sec ≡ Some (m, sp) → Said o n o₁ a (head_text (text "N") sp) 96 → Said o₁ a o₂ b (note_text t (note_of m)) 384 → Wrote o₂ b o₃ r (10 ∷ []) → Said o n o₃ r (ended (note_lines t (secondary_of sec))) 512
+pub note-line : (t : List Text) {sec : Maybe (Note × Span)} {m : Note} {sp : Span} {o o₁ o₂ o₃ : List ℕ} {n a b r : ℕ} → sec ≡ Some (m, sp) → Said o n o₁ a (head_text (text "N ") sp) 96 → Said o₁ a o₂ b (note_text t (note_of m)) 384 → Wrote o₂ b o₃ r (10 ∷ []) → Said o n o₃ r (ended (note_lines t (secondary_of sec))) 512
 unfolding note_lines
 note-line t {sp = sp} e u v w = rw e (line-said _ _ sp u v w)
 
@@ -97,9 +97,14 @@ module _ (s : Sink) {b : ℕ} where
 pub report_past : (t : List Text) (d : Diagnostic) (s : Sink) (o : List ℕ) → SinkFits s → 256 < s.errors + s.warnings → Reported t d s o s o
 report_past t d s o f h = record { emits = sym (one-past t (diagnostic_of d) (written_of s o) h); fits = f }
 
--- the pieces of the first line
-pub first_said : {a b x y : ℕ} {v w o o₁ o₂ o₃ o₄ o' : List ℕ} {n k₁ k₂ k₃ k₄ r : ℕ} → Wrote o n o₁ k₁ (text "list ") → Shown v (decimal x) 20 → Wrote o₁ k₁ o₂ k₂ v → Wrote o₂ k₂ o₃ k₃ (text " ") → Shown w (decimal y) 20 → Wrote o₃ k₃ o₄ k₄ w → Wrote o₄ k₄ o' r (text "\n") → x ≡ a → y ≡ b → Wrote o n o' r (ended (spaced (text "list") (decimal a ∷ decimal b ∷ []) ∷ []))
+-- two numbers and what stands around them
+pub numbers-said : (x y : ℕ) {v w before after o o₁ o₂ o₃ o₄ o' : List ℕ} {n k₁ k₂ k₃ k₄ r : ℕ} → Shown v (decimal x) 20 → Shown w (decimal y) 20 → length before + length after ≤ 32 → Wrote o n o₁ k₁ before → Wrote o₁ k₁ o₂ k₂ v → Wrote o₂ k₂ o₃ k₃ (text " ") → Wrote o₃ k₃ o₄ k₄ w → Wrote o₄ k₄ o' r after → Said o n o' r (before ++ (decimal x ++ (32 ∷ (decimal y ++ after)))) 96
+numbers-said x y d e h s u f v g =
+    record {
+      wrote = rw (← d.shows, ← e.shows) (wrote_then s (wrote_then u (wrote_then f (wrote_then v g))));
+      within = omega (arith, s.after, u.after, f.after, v.after, g.after, d.short, e.short);
+    }
+
+pub first-line : (x y : ℕ) {a b : ℕ} {o o' : List ℕ} {n r : ℕ} → Wrote o n o' r (text "list " ++ (decimal x ++ (32 ∷ (decimal y ++ (10 ∷ []))))) → x ≡ a → y ≡ b → Wrote o n o' r (ended (spaced (text "list") (decimal a ∷ decimal b ∷ []) ∷ []))
 unfolding ended spaced
-first_said {a} {b} {o = o} {o' = o'} {n} {r = r} u d v w e x y f g =
-    let s = wrote_then u (wrote_then v (wrote_then w (wrote_then x y))) in
-    rw (← f, ← g, ← d.shows, ← e.shows) (subst (λ (l : List ℕ). Wrote o n o' r (text "list " ++ l)) (sym (append_assoc _ (32 ∷ _) (10 ∷ []))) s)
+first-line x y s e f = rw (← e, ← f, append_assoc (decimal x) (32 ∷ decimal y) (10 ∷ [])) s

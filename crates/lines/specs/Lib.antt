@@ -2,4 +2,4 @@ pub mod Values
 pub mod Stored
 pub mod EmitLaws
 pub mod Readable
-pub mod Parts
+pub mod Texts

@@ -14,13 +14,11 @@ ghost use Rattle.context.specs.Sink.{SinkFits};
 ghost use Rattle.context.specs.View.{TextsAt};
 ghost use Rattle.lines.specs.Values.{severity_of, diagnostic_of, secondary_of, name_in, Below, NoteBelow, Fits, counted_of, error_of, error_with_note_of, warning_of, Reported};
 ghost use Rattle.lines.specs.Stored.{Wrote, Said, Shown};
-ghost use Rattle.lines.specs.Parts.{head_text};
+ghost use Rattle.lines.specs.Texts.{head_text};
 
 use ast::ClassicalType;
 use context::{GateOperand, Index, Sink, SymbolKind};
-use itoa::Buffer;
-use pieces::Part::{Number, Words};
-use pieces::{Texts, copy, number};
+use pieces::{Texts, copy, numbers};
 use span::Span;
 
 #[derive(Clone, Copy)]
@@ -149,40 +147,36 @@ pub fn warning(message: Message, span: Span) -> Diagnostic
 
 #[tactic(auto, unfolding(listing::specs::Listing::letter))]
 fn letter(severity: Severity) -> &'static [u8]
-    ensures { Shown result.now (letter (severity_of severity)) 2 }
+    ensures { Shown result.now (letter (severity_of severity) ++ (32 ∷ [])) 2 }
 {
     match severity {
-        Severity::Error => b"E",
-        Severity::Warning => b"W",
+        Severity::Error => b"E ",
+        Severity::Warning => b"W ",
     }
 }
 
-impl Texts<'_> {
-    // The head of a line: its letter and its span.
-    fn head(self, out: &mut [u8], n: usize, letter: &[u8], span: Span) -> usize
-        requires { (n < 1073741824) × (length letter.now ≤ 2) }
-        ensures { Said out.old n out.new result (head_text letter.now span) 96 }
-    {
-        self.say(
-            out,
-            n,
-            &[
-                Words(letter),
-                Words(b" "),
-                Number(u64::from(span.start)),
-                Words(b" "),
-                Number(u64::from(span.end)),
-                Words(b" "),
-            ],
-        )
-    }
+// The head of a line: its letter and its span.
+fn head(out: &mut [u8], n: usize, letter: &[u8], span: Span) -> usize
+    requires { (n < 4294967296) × (length letter.now ≤ 16) }
+    ensures { Said out.old n out.new result (head_text letter.now span) 96 }
+{
+    numbers(
+        out,
+        n,
+        letter,
+        u64::from(span.start),
+        u64::from(span.end),
+        b" ",
+    )
+}
 
+impl Texts<'_> {
     // The message's line.
     fn message_line(self, out: &mut [u8], n: usize, d: Diagnostic) -> usize
         requires { (n < 1048576) × Below (length (texts_of self.tree.now)) (name_in d.message) }
         ensures { Said out.old n out.new result (ended (diagnostic_line (texts_of self.entry.tree.now) (diagnostic_of d) ∷ [])) 512 }
     {
-        let a = self.head(out, n, letter(d.severity), d.span);
+        let a = head(out, n, letter(d.severity), d.span);
         let b = self.message(out, a, d.message);
         copy(out, b, b"\n")
     }
@@ -195,7 +189,7 @@ impl Texts<'_> {
         let Some((note, span)) = secondary else {
             return n;
         };
-        let a = self.head(out, n, b"N", span);
+        let a = head(out, n, b"N ", span);
         let b = self.note(out, a, note);
         copy(out, b, b"\n")
     }
@@ -239,10 +233,12 @@ pub fn report(out: &mut [u8], sink: Sink, tree: &[u8], index: &Index, d: Diagnos
 pub fn first_line(out: &mut [u8], errors: u16, warnings: u16) -> usize
     ensures { Wrote out.old 0 out.new result (ended (spaced (text "list") (decimal errors ∷ decimal warnings ∷ []) ∷ [])) }
 {
-    let mut digits = Buffer::new();
-    let a = copy(out, 0, b"list ");
-    let b = copy(out, a, number(u64::from(errors), &mut digits));
-    let c = copy(out, b, b" ");
-    let d = copy(out, c, number(u64::from(warnings), &mut digits));
-    copy(out, d, b"\n")
+    numbers(
+        out,
+        0,
+        b"list ",
+        u64::from(errors),
+        u64::from(warnings),
+        b"\n",
+    )
 }

@@ -1,5 +1,5 @@
-// The parts of lines, as pieces of the tree and of the wording, and their storing.
-ghost use Rattle.std.specs.Prelude.{◌<◌, ◌+◌, length};
+// The pieces of lines, and their storing.
+ghost use Rattle.std.specs.Prelude.{◌≡◌, ◌≤◌, ◌<◌, ◌+◌, ◌++◌, ◌∷◌, length};
 ghost use Rattle.std.specs.List.{All};
 ghost use Rattle.text.specs.Decimal.{decimal};
 ghost use Rattle.tree.specs.Decode.{texts_of};
@@ -13,11 +13,10 @@ use ast::ClassicalType;
 use context::{Index, SymbolKind};
 use itoa::Buffer;
 
-// A part of a line.
+// A value in a text.
 #[derive(Clone, Copy)]
-pub(crate) enum Part<'a> {
-    Words(&'a [u8]),
-    // The text with a number.
+pub(crate) enum Value {
+    // The text of the tree with a number.
     Name(usize),
     TypeName(ClassicalType),
     KindName(SymbolKind),
@@ -65,39 +64,66 @@ pub(crate) fn number(v: u64, digits: &mut Buffer) -> &[u8]
     digits.format(v).as_bytes()
 }
 
-impl<'a> Texts<'a> {
-    ghost use Rattle.lines.specs.Parts.{Named, part_text, part_room, joined, room};
+// Stores two numbers and what stands around them.
+pub(crate) fn numbers(
+    out: &mut [u8],
+    n: usize,
+    before: &[u8],
+    first: u64,
+    second: u64,
+    after: &[u8],
+) -> usize
+    requires { (n < 4294967296) × (length before.now ≤ 16) × (length after.now ≤ 16) }
+    ensures { Said out.old n out.new result (before.now ++ (decimal first ++ (32 ∷ (decimal second ++ after.now)))) 96 }
+{
+    let mut digits = Buffer::new();
+    let a = copy(out, n, before);
+    let b = copy(out, a, number(first, &mut digits));
+    let c = copy(out, b, b" ");
+    let d = copy(out, c, number(second, &mut digits));
+    copy(out, d, after)
+}
 
-    // The next piece of a line: a part of the tree or of the wording. The digits of a number stand in neither, and are lent.
-    fn piece<'b>(self, part: Part<'b>, digits: &'b mut Buffer) -> &'b [u8]
+impl<'a> Texts<'a> {
+    ghost use Rattle.lines.specs.Texts.{Named, value_text, value_room, joined, room};
+
+    // The next piece of a text: a part of the tree or of the wording. The digits of a number stand in neither, and are lent.
+    fn piece<'b>(self, value: Value, digits: &'b mut Buffer) -> &'b [u8]
     where
         'a: 'b,
-        requires { Named (length (texts_of self.tree.now)) part }
-        ensures { Shown result.now (part_text (texts_of self.entry.tree.now) part.entry) (part_room part.entry) }
+        requires { Named (length (texts_of self.tree.now)) value }
+        ensures { Shown result.now (value_text (texts_of self.entry.tree.now) value) (value_room value) }
     {
-        match part {
-            Part::Words(words) => words,
-            Part::Name(x) => name_of(self.tree, self.index, x),
-            Part::TypeName(ty) => words::type_name(ty),
-            Part::KindName(kind) => words::kind_name(kind),
-            Part::ExpectedName(expected) => words::expected_name(expected),
-            Part::PlaceName(place) => words::place_name(place),
-            Part::Number(v) => number(v, digits),
-            Part::Sum(a, b) => digits.format(u128::from(a) + u128::from(b)).as_bytes(),
+        match value {
+            Value::Name(x) => name_of(self.tree, self.index, x),
+            Value::TypeName(ty) => words::type_name(ty),
+            Value::KindName(kind) => words::kind_name(kind),
+            Value::ExpectedName(expected) => words::expected_name(expected),
+            Value::PlaceName(place) => words::place_name(place),
+            Value::Number(v) => number(v, digits),
+            Value::Sum(a, b) => digits.format(u128::from(a) + u128::from(b)).as_bytes(),
         }
     }
 
-    // Stores the parts one after the other.
-    pub fn say(self, out: &mut [u8], n: usize, parts: &[Part]) -> usize
-        requires few { n + room parts.now < 9223372036854775808 }
-        requires named { All (Named (length (texts_of self.tree.now))) parts.now }
-        ensures { Said out.old n out.new result (joined (texts_of self.entry.tree.now) parts.now) (room parts.now) }
+    // Stores words and values in turn: words come first and last.
+    pub fn say(
+        self,
+        out: &mut [u8],
+        n: usize,
+        words: &'static [&'static [u8]],
+        values: &[Value],
+    ) -> usize
+        requires turns { length words.now ≡ length values.now + 1 }
+        requires few { n + room words.now values.now < 9223372036854775808 }
+        requires named { All (Named (length (texts_of self.tree.now))) values.now }
+        ensures { Said out.old n out.new result (joined (texts_of self.entry.tree.now) words.now values.now) (room words.now values.now) }
     {
         let mut digits = Buffer::new();
         let mut at = n;
-        for part in parts {
-            at = copy(out, at, self.piece(*part, &mut digits));
+        for (i, value) in values.iter().enumerate() {
+            at = copy(out, at, words[i]);
+            at = copy(out, at, self.piece(*value, &mut digits));
         }
-        at
+        copy(out, at, words[values.len()])
     }
 }
