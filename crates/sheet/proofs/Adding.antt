@@ -1,9 +1,9 @@
 -- Keys added to the index. Assumes nothing.
 use Prim.Native.Nat.{ℕ, zero, suc, ◌+◌, ◌-◌, ◌*◌, ◌≤◌, ◌<◌, min}
-use mathlib.Core.Path.{◌≡◌, refl, sym, ◌∙◌}
-use mathlib.Core.List.{List, [], ◌∷◌}
+use mathlib.Core.Path.{◌≡◌, refl, sym, ap, ◌∙◌}
+use mathlib.Core.List.{List}
 use mathlib.Core.Option.{some}
-use mathlib.Core.Bool.{Bool, true, false}
+use mathlib.Core.Bool.{Bool, true, false, false≢true}
 use native.Mathlib.Omega.{arith}
 use native.Mathlib.Nat.{add-zero}
 use native.Mathlib.Numerals.{add-one}
@@ -12,29 +12,38 @@ use lib.Seq.{take-set-le}
 use Rattle.sema.specs.Marks.{Key, key}
 use Rattle.sema.specs.Keys.{same_key, has_key, add_key, add_indices, add_range}
 use Rattle.context.specs.View.{key_by, key_at, keys_from, keys_in}
-use Rattle.std.specs.Prelude.{Option as Maybe, Some, None}
-use Rattle.sheet.specs.Sheet.{Indexed, position, KeysAdded, Grown}
+use Rattle.std.specs.Prelude.{Option as Maybe, Some, None, unwrap_or}
+use Rattle.std.specs.Option.{is_some}
+use Rattle.sheet.specs.Sheet.{Indexed, position, FoundAt, KeysAdded, Grown}
 use Rattle.sheet.specs.Places.{by_test, has_here, has_there, position-has, position-none}
 use Rattle.sheet.specs.Table.{none-added, length-keys, add-there, add-new, length-new, AtLeast, more-long, keep-indices, keys-stored, added_full}
 
 -- one key
-module _ (index : List ℕ) (count : ℕ) (k : Key) (n : ℕ) (t : Indexed index count) (e : n ≡ position (keys_in index count) k) where
+module _ (index : List ℕ) (count : ℕ) (k : Key) (r : Maybe ℕ) (t : Indexed index count) (e : FoundAt r count (position (keys_in index count) k)) where
   lengths : length (keys_in index count) ≡ count
   lengths = length-keys index 0 count
 
-  pub added-there : n < count → Grown index index (Some count) (add_key (keys_in index count) k)
-  added-there h =
-      let a = add-there (keys_in index count) k (position-has (keys_in index count) k (omega (arith, lengths))) in
+  there : (r : Maybe ℕ) → FoundAt r count (position (keys_in index count) k) → is_some r ≡ true → has_key (keys_in index count) k ≡ true
+  there None f h = absurd (false≢true h)
+  there (Some n) f h = position-has (keys_in index count) k (omega (arith, lengths, f))
+
+  new : (r : Maybe ℕ) → FoundAt r count (position (keys_in index count) k) → is_some r ≡ false → has_key (keys_in index count) k ≡ false
+  new None f h = position-none (keys_in index count) k (omega (arith, lengths, f))
+  new (Some n) f h = absurd (false≢true (sym h))
+
+  pub added-there : (b : Bool) → b ≡ is_some r → b ≡ true → Grown index index (Some count) (add_key (keys_in index count) k)
+  added-there b f h =
+      let a = add-there (keys_in index count) k (there r e (sym f ∙ h)) in
       (rw a (record { counted = omega (arith, lengths, t.few); keys = λ f. refl; texts = refl }), t.few)
 
-  module _ (h : count ≤ n) where
-    new : has_key (keys_in index count) k ≡ false
-    new = position-none (keys_in index count) k (omega (arith, lengths))
+  module _ (b : Bool) (s : b ≡ is_some r) (h : b ≡ false) where
+    added : length (add_key (keys_in index count) k) ≡ suc count
+    added = length-new (keys_in index count) k (new r e (sym s ∙ h)) ∙ ap suc lengths
 
     pub added-over : count ≡ 256 → KeysAdded index index 257 (add_key (keys_in index count) k)
     added-over f =
         record {
-          counted = omega (arith, lengths, length-new (keys_in index count) k new);
+          counted = omega (arith, added);
           keys = λ g. absurd (omega arith);
           texts = refl;
         }
@@ -44,8 +53,8 @@ module _ (index : List ℕ) (count : ℕ) (k : Key) (n : ℕ) (t : Indexed index
         let l : count < 256 = omega (arith, t.few) in
         let at = 256 + 2 * count in (
           record {
-            counted = omega (arith, lengths, length-new (keys_in index count) k new);
-            keys = λ u. rw (add-one count, add-new (keys_in index count) k new, ← g) (keys-stored index count head i t.size l);
+            counted = omega (arith, added);
+            keys = λ u. rw (add-one count, add-new (keys_in index count) k (new r e (sym s ∙ h)), ← g) (keys-stored index count head i t.size l);
             texts = take-set-le 256 (set index at head) (at + 1) i (omega arith) ∙ take-set-le 256 index at head (omega arith);
           },
           omega arith,
@@ -69,18 +78,10 @@ added-near index count k near r t h e f =
     let a = add-there ks k (has_at index count 0 k near h (rw b (sym e ∙ f))) in
     (rw a (none-added index count t), t.few)
 
--- the number of a key is at most how many there are
-position-few : (ls : List Key) (k : Key) → position ls k ≤ length ls
-unfolding position
-position-few [] k = omega arith
-position-few (l ∷ ls) k = go (same_key l k) (position-few ls k)
-  where
-    go : (b : Bool) → position ls k ≤ length ls → elim b [ true ↦ 0 | false ↦ suc (position ls k) ] ≤ suc (length ls)
-    go true h = omega arith
-    go false h = omega arith
-
-pub near-small : (index : List ℕ) (count r : ℕ) (k : Key) (n m j : ℕ) → Indexed index count → r ≡ position (keys_in index count) k → j ≤ m → m ≡ min n 257 → r + j ≤ 513
-near-small index count r k n m j t e h f = omega (arith, position-few (keys_in index count) k, length-keys index 0 count, t.few)
+-- where an index is looked for first, and those that follow
+pub near-small : (count p n m j u : ℕ) (r : Maybe ℕ) → FoundAt r count p → u ≡ unwrap_or r count → count ≤ 256 → j ≤ m → m ≡ min n 257 → u + j ≤ 513
+near-small count p n m j u None f e l h g = omega arith
+near-small count p n m j u (Some k) f e l h g = omega (arith, f.0)
 
 -- so many indices, of which j are added
 pub record Adding (before : List ℕ) (count x i n m : ℕ) (index : List ℕ) (c j : ℕ) : Type 0 where

@@ -12,8 +12,8 @@ use borrow.Author.Tests.{eq-eqb, ne_eqb}
 use Rattle.sema.specs.Marks.{Key, in_slice}
 use Rattle.sema.specs.Keys.{same_key}
 use Rattle.context.specs.View.{key_at, keys_from, keys_in}
-use Rattle.std.specs.Prelude.{Option as Maybe, Some, None, MatchOption, unwrap_or}
-use Rattle.sheet.specs.Sheet.{position, offer, least_in}
+use Rattle.std.specs.Prelude.{Option as Maybe, Some, None, MatchOption}
+use Rattle.sheet.specs.Sheet.{position, FoundAt, offer, least_in}
 
 -- the keys from number k on
 abbrev pub rest : List ℕ → ℕ → ℕ → List Key
@@ -71,9 +71,9 @@ module _ (index : List ℕ) (count : ℕ) (key : Key) where
   seeking-to (suc k) h f = rw (← add-one k) (seeking-more (seeking-to k (omega arith) (λ j l. f j (omega arith))) false (omega arith) (sym (f k (omega arith))) refl)
 
   pub found_at : (r : Maybe ℕ) → MatchOption r ((k : ℕ) → 0 ≤ k → k < count → Is false k) (λ i. (0 ≤ i) × (i < count) × Is true i × ((k : ℕ) → 0 ≤ k → k < i → Is false k))
-      → unwrap_or r count ≡ position (keys_in index count) key
+      → FoundAt r count (position (keys_in index count) key)
   found_at None h = seeking-end (seeking-to count (omega arith) (λ j l. h j (omega arith) l)) (omega arith)
-  found_at (Some i) h = seeking-found (seeking-to i (omega (arith, h.1)) (λ j l. h.3 j (omega arith) l)) true h.1 (sym h.2) refl
+  found_at (Some i) h = (h.1, seeking-found (seeking-to i (omega (arith, h.1)) (λ j l. h.3 j (omega arith) l)) true h.1 (sym h.2) refl)
 
 -- a key with no place is not offered
 unmarked : (b : Bool) (o : Option ℕ) (c : Maybe (ℕ × ℕ)) → c ≡ cond b (offer o 0 c) c

@@ -10,7 +10,7 @@ use Rattle.context.specs.View.{key_by}
 use Rattle.ast.specs.Tree.{GateOperand}
 use Rattle.std.proofs.Math.Option.{Option, none, some}
 use Rattle.sheet.specs.declared.keys.IndexKey.{IndexKey}
-use Rattle.sheet.specs.Sheet.{key_of, reaches}
+use Rattle.sheet.specs.Sheet.{key_of, reached}
 use Rattle.sheet.specs.Heads.{even-key, odd-key, by_parity, whole-key, index_key}
 
 -- a key by its two numbers
@@ -45,23 +45,23 @@ set_by size op k = eqb k.name op.name && measures size op.slice op.index k.index
 abbrev pub cleared_by : GateOperand → Key → Bool
 cleared_by op k = eqb k.name op.name && resets op.slice op.index k.index
 
-reaches-measures : (size : Option ℕ) (slice : Option (ℕ × ℕ)) (index i : Option ℕ) → reaches slice index i (below_size size i) ≡ measures size slice index i
-unfolding reaches measures
-reaches-measures size none none i = refl
-reaches-measures size none (some j) i = refl
-reaches-measures size (some r) index i = refl
+reached-measures : (size : Option ℕ) (slice : Option (ℕ × ℕ)) (index i : Option ℕ) → reached slice index i (below_size size i) ≡ measures size slice index i
+unfolding reached measures
+reached-measures size none none i = refl
+reached-measures size none (some j) i = refl
+reached-measures size (some r) index i = refl
 
-reaches-resets : (slice : Option (ℕ × ℕ)) (index i : Option ℕ) → reaches slice index i true ≡ resets slice index i
-unfolding reaches resets
-reaches-resets none none i = refl
-reaches-resets none (some j) i = refl
-reaches-resets (some r) index i = refl
+reached-resets : (slice : Option (ℕ × ℕ)) (index i : Option ℕ) → reached slice index i true ≡ resets slice index i
+unfolding reached resets
+reached-resets none none i = refl
+reached-resets none (some j) i = refl
+reached-resets (some r) index i = refl
 
-pub reaches-set : (size : Option ℕ) (op : GateOperand) (k : Key) (r : Bool) → r ≡ (eqb k.name op.name && reaches op.slice op.index k.index (below_size size k.index)) → r ≡ set_by size op k
-reaches-set size op k r e = e ∙ rw (reaches-measures size op.slice op.index k.index)
+pub reached-set : (size : Option ℕ) (op : GateOperand) (k : Key) (r : Bool) → r ≡ (eqb k.name op.name && reached op.slice op.index k.index (below_size size k.index)) → r ≡ set_by size op k
+reached-set size op k r e = e ∙ rw (reached-measures size op.slice op.index k.index)
 
-pub reaches-cleared : (op : GateOperand) (k : Key) (r : Bool) → r ≡ (eqb k.name op.name && reaches op.slice op.index k.index true) → r ≡ cleared_by op k
-reaches-cleared op k r e = e ∙ rw (reaches-resets op.slice op.index k.index)
+pub reached-cleared : (op : GateOperand) (k : Key) (r : Bool) → r ≡ (eqb k.name op.name && reached op.slice op.index k.index true) → r ≡ cleared_by op k
+reached-cleared op k r e = e ∙ rw (reached-resets op.slice op.index k.index)
 
 pub same-told : (a b : IndexKey) (k : Key) (r : Bool) → r ≡ (eqb a.name b.name && option_eq eqb a.index b.index) → key_of a ≡ k → same_key k (key_of b) ≡ r
 same-told a b k r e f = sym (same-decoded a b k r e f)

@@ -1,5 +1,5 @@
 -- The mark sheet by places: what is looked up in it, and what it is after a measure, a reset and a branch.
-use Rattle.std.specs.Prelude.{ℕ, zero, suc, ◌≤◌, min, ◌≡◌, List, [], ◌∷◌, Bool, true, false, cond, ◌&&◌, length, take, eqb, leb}
+use Rattle.std.specs.Prelude.{ℕ, zero, suc, ◌≤◌, ◌<◌, min, ◌≡◌, List, [], ◌∷◌, Bool, true, false, cond, ◌&&◌, length, take, eqb, leb}
 use Rattle.std.proofs.Math.Option.{Option, none, some}
 use Rattle.span.specs.declared.Span.{Span}
 use Rattle.ast.specs.Tree.{TextNumber, GateOperand}
@@ -24,6 +24,11 @@ key_of k = record { name = k.name; index = number_of k.index }
 unfoldable pub position : List Key → Key → ℕ
 position [] k = 0
 position (l ∷ ls) k = elim (same_key l k) [ true ↦ 0 | false ↦ suc (position ls k) ]
+
+-- so it is found, or not
+abbrev pub FoundAt : Maybe ℕ → ℕ → ℕ → Type 0
+FoundAt (Some k) count n = (k < count) × (k ≡ n)
+FoundAt None count n = count ≡ n
 
 -- a place, or another where it is none
 abbrev pub first : ℕ → ℕ → ℕ
@@ -84,10 +89,10 @@ measuring size op k = cond (eqb k.name op.name && measures size op.slice op.inde
 
 -- One test for both: a measure sets a key of the name, or a reset clears it. They differ where the operand is a name alone: there
 -- `whole` says so.
-unfoldable pub reaches : Option (ℕ × ℕ) → Option ℕ → Option ℕ → Bool → Bool
-reaches (some r) index i whole = in_slice r i
-reaches none (some j) i whole = is_index j i
-reaches none none i whole = whole
+unfoldable pub reached : Option (ℕ × ℕ) → Option ℕ → Option ℕ → Bool → Bool
+reached (some r) index i whole = in_slice r i
+reached none (some j) i whole = is_index j i
+reached none none i whole = whole
 
 -- a place for each key that passes a test
 unfoldable pub stored : (Key → Bool) → ℕ → List Key → List ℕ → List ℕ

@@ -12,7 +12,7 @@ ghost use Rattle.sema.specs.Keys.{same_key};
 ghost use Rattle.context.specs.Values.{number_of, ends_of, operand_of};
 ghost use Rattle.context.specs.View.{key_at, keys_in, place_in, marks_of, measure_span, PlaceOk, Placed};
 ghost use Rattle.sheet.specs.declared.keys.IndexKey.{IndexKey as KeyValue};
-ghost use Rattle.sheet.specs.Sheet.{Indexed, key_of, lookup_in, smaller, offer, least_in, smallest_in, Distinct, Covers, reaches, measuring, stored, first};
+ghost use Rattle.sheet.specs.Sheet.{Indexed, key_of, lookup_in, smaller, offer, least_in, smallest_in, Distinct, Covers, reached, measuring, stored, first};
 ghost use Rattle.sheet.specs.Behind.{Blank};
 
 use crate::keys::IndexKey;
@@ -132,9 +132,9 @@ pub fn smallest(
 }
 
 // Of the keys of its name an operand reaches its index, or those of its slice; where it is a name alone, `whole` says so.
-#[tactic(auto, unfolding(crate::specs::Sheet::reaches, sema::specs::Marks::is_index))]
+#[tactic(auto, unfolding(crate::specs::Sheet::reached, sema::specs::Marks::is_index))]
 fn is_reached(op: GateOperand, key: IndexKey, whole: bool) -> bool
-    ensures { result ≡ reaches (ends_of op.slice) (number_of op.index) (number_of key.index) whole }
+    ensures { result ≡ reached (ends_of op.slice) (number_of op.index) (number_of key.index) whole }
 {
     match (op.slice, op.index) {
         (Some((a, b)), _) => key.is_within(a, b),

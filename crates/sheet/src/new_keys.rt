@@ -6,7 +6,7 @@ ghost use Rattle.sema.specs.Marks.{key};
 ghost use Rattle.sema.specs.Keys.{add_key, add_range, add_measured};
 ghost use Rattle.context.specs.Values.{number_of, ends_of};
 ghost use Rattle.context.specs.View.{keys_in};
-ghost use Rattle.sheet.specs.Sheet.{Indexed, key_of, position, Grown, KeysAdded};
+ghost use Rattle.sheet.specs.Sheet.{Indexed, key_of, position, FoundAt, Grown, KeysAdded};
 
 use crate::keys::{IndexKey, KEYS};
 use context::GateOperand;
@@ -14,14 +14,12 @@ use context::GateOperand;
 // More keys than there may be.
 pub const OVER: usize = 257;
 
-// The number of a key, or the count where it is not there.
-fn find(index: &[u64], count: usize, key: IndexKey) -> usize
+// The number of a key.
+fn find(index: &[u64], count: usize, key: IndexKey) -> Option<usize>
     requires { Indexed index.now count }
-    ensures { result ≡ position (keys_in index.now count) (key_of key) }
+    ensures { FoundAt result count (position (keys_in index.now count) (key_of key)) }
 {
-    (0..count)
-        .find(|k| IndexKey::at(index, *k) == key)
-        .unwrap_or(count)
+    (0..count).find(|k| IndexKey::at(index, *k) == key)
 }
 
 // A key more, if it is not there; None where there is no room, and the index is as it was.
@@ -31,7 +29,7 @@ fn add_key(index: &mut [u64], count: usize, key: IndexKey) -> Option<usize>
     ensures added { Grown index.old index.new result (add_key (keys_in index.old count) (key_of key)) }
     ensures over { result ≡ None → index.new ≡ index.old }
 {
-    if find(index, count, key) < count {
+    if find(index, count, key).is_some() {
         return Some(count);
     }
     if count == KEYS {
@@ -62,7 +60,7 @@ fn add_range(index: &mut [u64], count: usize, x: usize, i: u64, n: u64) -> Optio
     requires x_bound { (x < 256) × (i + n ≤ 2 ^ 64) }
     ensures { Grown index.old index.new result (add_range (keys_in index.old count) x i n) }
 {
-    let first = find(index, count, IndexKey::new(x, Some(i)));
+    let first = find(index, count, IndexKey::new(x, Some(i))).unwrap_or(count);
     let mut c = count;
     for j in 0..n.min(257) {
         c = add_near(index, c, first + j as usize, IndexKey::new(x, Some(i + j)))?;

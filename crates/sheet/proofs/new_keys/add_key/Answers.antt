@@ -1,8 +1,8 @@
 use Rattle.sheet.proofs.Adding.{added-there, added-over, added_new}
 use Rattle.sheet.proofs.new_keys.add_key.Goals as goal
 
-pub returns-then-find-count-clause-added : goal.returns-then-find-count-clause-added
-returns-then-find-count-clause-added c = search added-there
+pub returns-then-is_some-clause-added : goal.returns-then-is_some-clause-added
+returns-then-is_some-clause-added c = search added-there
 
 pub returns-then-count-eq-KEYS-clause-added : goal.returns-then-count-eq-KEYS-clause-added
 returns-then-count-eq-KEYS-clause-added c = search added-over
