@@ -2,10 +2,9 @@
 use Prim.Native.Nat.{ℕ, ◌+◌, ◌≤◌, ◌<◌}
 use mathlib.Core.Path.{◌≡◌, refl, sym, ap, ◌∙◌}
 use mathlib.Core.List.{List, [], ◌∷◌, ◌++◌}
-use native.Mathlib.Omega.{arith}
 use native.Mathlib.Nat.{zero-add}
 use lib.ListN.{length, take, replicate}
-use Rattle.std.specs.Prelude.{Result, Ok, Err}
+use Rattle.std.specs.Prelude.{None, Result, Ok, Err}
 use lib.Seq.{sets}
 use borrow.Author.Tests.{lt-ltb, le-ltb}
 use Rattle.ast.specs.Tree.{Program, no_stmt}
@@ -16,8 +15,6 @@ use Rattle.sema.specs.Keys.{keys}
 use Rattle.sema.specs.Stmts.{analyze}
 use Rattle.listing.specs.Listing.{ended, first_line, listing_of}
 use Rattle.answer.specs.Answer.{Answer, accepted, refusal, judge_diagnostics, judge_program, judge_file, answer, listing_file, listing_after, scratch_after}
-use Rattle.std.specs.Prelude.{Option, Some, None, is_some}
-use Rattle.std.proofs.lemmas.Bool.{false≢true}
 use Rattle.reader.specs.Answers.{told, refusal_of}
 use Rattle.context.specs.declared.Sink.{Sink}
 use Rattle.lines.specs.EmitLaws.{listing-stored}
@@ -82,22 +79,22 @@ module _ (p : Program) {s l s' : List ℕ} where
         })
 
 -- of a file
-said : Option (ℕ × ℕ) → ℕ × ℕ
-said (Some p) = p
-said None = (0, 0)
-
-pub file-refused : (x : Ans Program) (r : Refused) → told (Err r) ≡ refusal_of x → x ≡ refused (number_of r.refusal) r.place
-file-refused (ok p next) r e = absurd (false≢true (sym (ap is_some e)))
-file-refused (refused m q) r e = sym (ap (λ (p : ℕ × ℕ). refused p.0 p.1) (ap said e))
+refused-judged : (tree : List ℕ) (x : Ans Program) (s l : List ℕ) (r : Refused) → decode tree ≡ x → told (Err r) ≡ refusal_of x → JudgedFile tree s l (Err r) s l
+unfolding judge_file listing_after
+refused-judged tree (ok p next) s l r d e = absurd cc
+refused-judged tree (refused n q) s l r d e =
+    let pair : ◌≡◌ {A = ℕ × ℕ} (number_of r.refusal, r.place) (n, q) = cc in
+    let a : number_of r.refusal ≡ n = ap (λ (p : ℕ × ℕ). p.0) pair in
+    let b : r.place ≡ q = ap (λ (p : ℕ × ℕ). p.1) pair in
+    record { answers = rw (d, a, b); listed = rw d; scratch = record { same_length = refl; same_rest = refl } }
 
 pub file-accepted : (x : Ans Program) → None ≡ refusal_of x → IsOk x
 unfolding IsOk
 file-accepted (ok p next) e = tt
-file-accepted (refused m r) e = absurd (false≢true (ap is_some e))
+file-accepted (refused n q) e = absurd cc
 
-pub judged-refused : (tree s l : List ℕ) (r : Refused) → decode tree ≡ refused (number_of r.refusal) r.place → JudgedFile tree s l (Err r) s l
-unfolding judge_file listing_after
-judged-refused tree s l r e = record { answers = rw e; listed = rw e; scratch = record { same_length = refl; same_rest = refl } }
+pub judged-refused : (tree s l : List ℕ) (r : Refused) → told (Err r) ≡ refusal_of (decode tree) → JudgedFile tree s l (Err r) s l
+judged-refused tree s l r e = refused-judged tree (decode tree) s l r refl e
 
 program_of_lem : (x : Ans Program) (d : Program) (room : ℕ) → IsOk x → judge_file room x ≡ judge_program room (given d (λ p. p) x)
 unfolding judge_file IsOk given

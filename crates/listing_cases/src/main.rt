@@ -3,7 +3,7 @@
 
 use std::io;
 
-// More cases than the input has.
+// More cases than the input has. The loop has a bound, since nothing says that an input ends.
 const CASES: usize = 10000;
 
 fn main(rt: HostRuntime) -> io::Result<()> {
