@@ -29,6 +29,7 @@ pub fn read_full<R: Read>(input: &mut R, buffer: &mut [u8]) -> io::Result<usize>
 fn size_in(bytes: [u8; 4]) -> usize
     ensures { length_bytes result ≡ bytes }
 {
+    // std has no From<u32> for usize.
     u32::from_be_bytes(bytes) as usize
 }
 

@@ -46,6 +46,7 @@ impl File<'_> {
     {
         tables::begin(scratch);
         let sink = Sink {
+            // n is a place of the listing buffer: TryFrom would add an error that no place gives.
             n: n as u32,
             errors: 0,
             warnings: 0,
@@ -112,6 +113,7 @@ impl File<'_> {
         ensures listed { listing.new ≡ sets listing.old 0 (program_listing (program_of self.entry.tree.now)) }
         ensures same { SameRest scratch.old scratch.new }
     {
+        // std has no From<u32> for usize.
         if sink.n as usize <= stage.len() {
             verdict::write_staged(stage, listing, sink);
         } else {

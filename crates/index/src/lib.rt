@@ -17,6 +17,7 @@ pub fn place_texts(tree: &[u8], index: &mut [u64]) -> usize
     let n = u16_at(tree, 0);
     let mut at = 2;
     for place in &mut index[..n] {
+        // std has no From<usize> for u64.
         *place = at as u64;
         at += 1 + usize::from(tree[at]);
     }

@@ -200,6 +200,7 @@ fn counted(sink: Sink, severity: Severity, n: usize) -> Sink
     requires { (sink.errors + sink.warnings ≤ 256) × (n ≤ 1048576) }
     ensures { result ≡ counted_of sink severity n }
 {
+    // n is at most 1,048,576: TryFrom would add an error that no n gives.
     let n = n as u32;
     match severity {
         Severity::Error => Sink {
@@ -224,6 +225,7 @@ pub fn report(out: &mut [u8], sink: Sink, tree: &[u8], index: &Index, d: Diagnos
         return sink;
     }
     let texts = Texts { tree, index };
+    // std has no From<u32> for usize.
     let a = texts.message_line(out, sink.n as usize, d);
     let b = texts.note_line(out, a, d.secondary);
     counted(sink, d.severity, b)

@@ -41,6 +41,7 @@ pub fn name_of<'a>(tree: &'a [u8], index: &Index, x: usize) -> &'a [u8]
     requires { Readable tree.now index.now x }
     ensures { Shown result.now (name_at (texts_of tree.now) x) 64 }
 {
+    // A place of the tree: TryFrom would add an error that no place gives.
     let at = index[x] as usize;
     let size = usize::from(tree[at]);
     &tree[at + 1..at + 1 + size]

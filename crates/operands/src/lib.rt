@@ -118,6 +118,7 @@ fn check_use_after_measure(
     if place == 0 {
         return sink;
     }
+    // std has no From<u64> for usize, and a place is one of the tree.
     let at = uses::measure_span(m.sema.tree, place as usize);
     lines::report(
         out,

@@ -45,6 +45,7 @@ pub fn check_slice_use(
     let Some((i, place)) = sheet::smallest(m.marks, m.sema.index, m.keys, x, a, b) else {
         return sink;
     };
+    // std has no From<u64> for usize, and a place is one of the tree.
     let at = measure_span(m.sema.tree, place as usize);
     lines::report(
         out,

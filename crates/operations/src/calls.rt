@@ -72,6 +72,7 @@ pub fn call_at(tree: &[u8], at: usize, left: usize) -> Call
 fn is_arity(args: usize, qubits: usize, controls: u64) -> bool
     ensures { result ≡ eqb args (qubits + controls) }
 {
+    // std has no From<usize> for u64.
     qubits <= args && (args - qubits) as u64 == controls
 }
 
@@ -94,6 +95,7 @@ fn check_param_count(
     let span = call.span;
     let d = Diagnostic {
         severity: Severity::Error,
+        // std has no From<usize> for u64.
         message: Message::GateParams(name, params as u64, got as u64),
         span,
         secondary: decl,
@@ -121,6 +123,7 @@ fn check_qubit_count(
     let span = call.span;
     let d = Diagnostic {
         severity: Severity::Error,
+        // std has no From<usize> for u64.
         message: Message::GateQubits(name, controls, qubits as u64, got as u64),
         span,
         secondary: decl,

@@ -44,6 +44,7 @@ pub fn mark_measured(
 {
     let name = qubit.name;
     let size = tables::size_of(scratch, depth, name);
+    // at is a place of the tree, below 16,384: TryFrom would add an error that no place gives.
     sheet::set(marks, index, keys, qubit, size, at as u16);
 }
 

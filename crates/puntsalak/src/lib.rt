@@ -17,6 +17,7 @@ fn four(answer: Answer) -> [u64; 4]
     match answer {
         Ok(listed) => [
             0,
+            // std has no From<usize> for u64.
             listed.errors as u64,
             listed.warnings as u64,
             listed.size as u64,

@@ -79,6 +79,7 @@ fn slot_of(sum: u64) -> usize
     ensures { (result ≡ slot_of sum) × (result < 1024) }
 {
     let folded = (sum % HALF + sum / HALF) % HALF;
+    // A number of ten bits in the end: TryFrom would add an error that no sum gives.
     (folded * SPREAD / FIRST_BITS) as usize % SLOTS
 }
 

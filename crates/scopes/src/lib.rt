@@ -134,7 +134,8 @@ pub fn declaration_at(tree: &[u8], at: usize, left: usize) -> Declaration
     }
 }
 
-// A Vec of names into the innermost scope.
+// A Vec of names into the innermost scope. Beside `insert_params`: names and parameters differ in stride and kind, and one
+// function that takes both as parameters is no plainer.
 #[tactic(auto, using(crate::proofs::Filling::names))]
 fn insert_names(
     tree: &[u8],
@@ -184,7 +185,7 @@ pub fn enter_gate(
     );
 }
 
-// A Vec of parameters into the innermost scope.
+// A Vec of parameters into the innermost scope; beside `insert_names`, as said there.
 #[tactic(auto, using(crate::proofs::Filling::params))]
 fn insert_params(tree: &[u8], scratch: &mut [u8], depth: usize, at: usize, span: Span)
     requires { (65536 ≤ length scratch.old) × (0 < depth) × (depth ≤ 9) × (length (texts_of tree.now) ≤ 256) × IsOk (vec (param (texts_of tree.now)) tree.now at) }

@@ -30,6 +30,7 @@ impl IndexKey {
         let head = index[KEYS + 2 * k];
         let i = index[KEYS + 2 * k + 1];
         IndexKey {
+            // The number of a text: TryFrom would add an error that no text gives.
             name: (head / 2) as usize,
             index: (head % 2 == 1).then_some(i),
         }
@@ -40,6 +41,7 @@ impl IndexKey {
         requires { self.name < 256 }
         ensures { key_by result.0 result.1 ≡ key_of self }
     {
+        // std has no From<usize> for u64.
         let head = 2 * self.name as u64;
         match self.index {
             Some(i) => (head + 1, i),

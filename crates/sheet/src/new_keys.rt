@@ -63,6 +63,7 @@ fn add_range(index: &mut [u64], count: usize, x: usize, i: u64, n: u64) -> Optio
     let first = find(index, count, IndexKey::new(x, Some(i))).unwrap_or(count);
     let mut c = count;
     for j in 0..n.min(257) {
+        // j is below 257: TryFrom would add an error that no j gives.
         c = add_near(index, c, first + j as usize, IndexKey::new(x, Some(i + j)))?;
     }
     Some(c)

@@ -49,7 +49,7 @@ fn store_span(s: &mut [u8], at: usize, sp: Span)
     s[at + 4..at + 8].copy_from_slice(&sp.end.to_be_bytes());
 }
 
-// The type with a number.
+// The type with a number. Total: a TryFrom would add an error that no stored byte gives.
 pub fn type_of(n: u8) -> ClassicalType
     ensures { result ≡ type_of n }
 {
@@ -65,10 +65,11 @@ pub fn type_of(n: u8) -> ClassicalType
 fn type_number(ty: ClassicalType) -> u8
     ensures { (result ≡ number_of ty) × (result < 5) }
 {
+    // A type's number is below 5: TryFrom would add an error that no type gives.
     types::number(ty) as u8
 }
 
-// The kind with a code. No code above 14 is ever stored.
+// The kind with a code. No code above 14 is ever stored, so a TryFrom would add an error that no stored byte gives.
 fn kind_of(code: u8) -> SymbolKind
     requires { 0 < code }
     ensures { kind_of result ≡ get_or kinds (code - 1) Qubit }
@@ -216,6 +217,7 @@ fn store_gate(s: &mut [u8], at: usize, sig: GateSig)
     ensures { (s.new ≡ sets s.old at (gate_bytes (gate_of sig))) × SpanFits sig.decl_span }
 {
     s[at] = 1;
+    // The counts are those of a file, below 256: TryFrom would add an error that no count gives.
     s[at + 1] = sig.param_count as u8;
     s[at + 2] = sig.qubit_count as u8;
     store_span(s, at + 3, sig.decl_span);
@@ -268,6 +270,7 @@ fn store_function(s: &mut [u8], at: usize, ty: ClassicalType, sp: Span, count: u
 {
     s[at] = 1;
     s[at + 1] = type_number(ty);
+    // The count is that of a file, below 256: TryFrom would add an error that no count gives.
     s[at + 2] = count as u8;
     store_span(s, at + 3, sp);
 }

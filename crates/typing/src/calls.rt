@@ -40,6 +40,7 @@ fn count_arguments(
         sink,
         sema.tree,
         sema.index,
+        // std has no From<usize> for u64.
         error_with_note(
             Message::FunctionArguments(x, params as u64, n as u64),
             span,
@@ -101,5 +102,6 @@ pub fn check_argument(
         return sink;
     }
     let expected = tables::param_type(sema.scratch, x, i);
+    // std has no From<usize> for u64.
     check_wanted(sema, out, Wanted::Argument(expected, (i + 1) as u64, x), t)
 }

@@ -36,6 +36,7 @@ pub fn judge(sink: Sink, room: usize) -> Answer
     ensures answers { (p : Program) → Learnt p sink → answer_of result ≡ judge_diagnostics room p (analyze p) }
     ensures fits { is_accepted (answer_of result) ≡ true → Listable sink room }
 {
+    // std has no From<u32> for usize.
     let n = sink.n as usize;
     let errors = usize::from(sink.errors);
     let warnings = usize::from(sink.warnings);
@@ -59,6 +60,7 @@ pub fn write_staged(stage: &[u8], listing: &mut [u8], sink: Sink)
     requires { (sink.n ≤ length stage.now) × (length (head_of sink.errors sink.warnings) + sink.n ≤ length listing.old) }
     ensures { listing.new ≡ sets (sets listing.old 0 (head_of sink.errors sink.warnings)) (length (head_of sink.errors sink.warnings)) (take sink.n stage.now) }
 {
+    // std has no From<u32> for usize.
     let n = sink.n as usize;
     let after = lines::first_line(listing, sink.errors, sink.warnings);
     listing[after..after + n].copy_from_slice(&stage[..n]);
