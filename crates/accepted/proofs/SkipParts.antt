@@ -1,18 +1,21 @@
 -- Where the parts of statements end, in the steps of the code. Assumes nothing.
-use Prim.Native.Nat.{ℕ, ◌+◌, ◌*◌, ◌≤◌, ◌<◌}
-use mathlib.Core.Path.{◌≡◌, sym}
+use Prim.Native.Nat.{ℕ, zero, suc, ◌+◌, ◌-◌, ◌*◌, ◌≤◌, ◌<◌}
+use mathlib.Core.Path.{◌≡◌, refl, sym}
 use mathlib.Core.List.{List}
 use mathlib.Core.Bool.{true}
 use native.Mathlib.Omega.{arith}
+use native.Mathlib.Numerals.{add-one}
 use lib.ListN.{length, get_or}
 use Rattle.ast.specs.Tree.{Text}
 use Rattle.tree.specs.Ans.{Reader, IsOk, next_of}
 use Rattle.tree.specs.Read.{u64, option, counted}
 use Rattle.tree.specs.Stmts.{slice, operand, held, modifier, for_range}
 use Rattle.accepted.specs.Parts.{next_is}
-use Rattle.accepted.specs.Fields.{option_in}
-use Rattle.accepted.specs.Ends.{Moves, option_inside}
+use Rattle.accepted.specs.Fields.{option_in, counted_in}
+use Rattle.accepted.specs.Remains.{Remains, remains-none, remains-step, remains-first, remains-done}
+use Rattle.accepted.specs.Ends.{Moves, counted-moves, option_inside}
 use Rattle.accepted.specs.Sizes.{Sized, option_end, option_end_lem, vec-end}
+use Rattle.accepted.specs.Steps.{Reached}
 use Rattle.accepted.specs.Operands as of
 use Rattle.accepted.specs.Singles.{is_single, single_is}
 
@@ -23,8 +26,29 @@ module _ {A : Type 0} (p : Reader A) (size : ℕ) (z : Sized p size) (s : List �
       let f = option_inside p m s at h in
       (option_in s at p h, omega arith)
 
-  pub vec-next : {B : Type 0} (nil : B) (cons : A → B → B) → IsOk (counted nil cons p s at) → (n : ℕ) → n ≡ get_or s at 0 → at + 1 + n * size ≡ next_of (counted nil cons p s at)
-  vec-next nil cons h n e = rw e (vec-end nil cons p size z s at h)
+  module _ {B : Type 0} (nil : B) (cons : A → B → B) (h : IsOk (counted nil cons p s at)) where
+    pub vec-next : at + 1 + get_or s at 0 * size ≡ next_of (counted nil cons p s at)
+    vec-next = vec-end nil cons p size z s at h
+
+    pub vec-room : Moves p → (at < length s) × (at + 1 + get_or s at 0 * size ≤ length s)
+    vec-room m =
+        let i = counted_in s at nil cons p h in
+        let l : at ≤ length s = omega arith in
+        let e = vec-next in
+        let f = ((counted-moves nil cons m).moves s at l h).1 in
+        (i, omega arith)
+
+-- a Vec stepped over value by value, by steps that lead past each
+module _ {A B : Type 0} (nil : B) (cons : A → B → B) (p : Reader A) (s : List ℕ) (at : ℕ) (h : IsOk (counted nil cons p s at)) (step : ℕ → ℕ → Type 0) (past : (k m : ℕ) → step k m → m ≡ next_of (p s k)) where
+  remains_at : (i k : ℕ) → i ≤ get_or s at 0 → Reached step i (at + 1) k → Remains nil cons p s (next_of (counted nil cons p s at)) (get_or s at 0 - i) k
+  remains_at zero k l r = rw r (remains-none nil cons p s at (get_or s at 0) h refl)
+  remains_at (suc i) k l (m, r, e) = rw (← add-one i) (remains-step (remains_at i m (omega arith) r) (omega arith) (past m k e))
+
+  pub reached-held : (i k : ℕ) → i < get_or s at 0 → Reached step i (at + 1) k → IsOk (p s k)
+  reached-held i k l r = remains-first (remains_at i k (omega arith) r) l
+
+  pub reached-end : (k : ℕ) → Reached step (get_or s at 0) (at + 1) k → k ≡ next_of (counted nil cons p s at)
+  reached-end k r = remains-done (remains_at (get_or s at 0) k (omega arith) r) (omega arith)
 
 module _ (t : List Text) (s : List ℕ) (at : ℕ) where
   pub operand-next : IsOk (operand t s at) → (k : ℕ) → k ≡ next_of (option u64 s (at + 2)) → (m : ℕ) → m ≡ next_of (option slice s k) → m + 8 ≡ next_of (operand t s at)

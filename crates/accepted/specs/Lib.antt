@@ -11,6 +11,7 @@ pub mod Spans
 pub mod Operands
 pub mod Singles
 pub mod Sizes
+pub mod Steps
 pub mod Bodies
 pub mod Stmts
 pub mod Compound

@@ -29,7 +29,7 @@ pub fn skip_expr(s: &[u8], at: usize, left: usize) -> usize
     }
 }
 
-// The place past a Vec of expressions.
+// The place past a Vec of expressions. A loop of its own, and no `skip_vec`: a closure in a cycle of calls gets no proof.
 #[cycle(skip_expr_skip_exprs)]
 pub fn skip_exprs(s: &[u8], at: usize, left: usize) -> usize
     requires { IsOk (exprs (expr (texts_of s.now) left) s.now at) }

@@ -1,11 +1,12 @@
 // Steps over the parts of statements: sizes added by the bytes that say what follows.
-ghost use Rattle.std.specs.Prelude.{◌≡◌, ◌≤◌, ◌<◌, length};
+ghost use Rattle.std.specs.Prelude.{◌≡◌, ℕ, ◌+◌, ◌*◌, ◌≤◌, ◌<◌, length, get_or};
 ghost use Rattle.tree.specs.Ans.{IsOk, next_of};
 ghost use Rattle.tree.specs.Read.{u64, option, vec};
 ghost use Rattle.tree.specs.Exprs.{name};
 ghost use Rattle.tree.specs.Stmts.{qualifier, slice, operand, modifier, for_range, param};
 ghost use Rattle.tree.specs.Decode.{texts_of};
 ghost use Rattle.accepted.specs.Sizes.{option_end};
+ghost use Rattle.accepted.specs.Steps.{Reached};
 
 use crate::exprs::{skip_expr, skip_option_expr};
 use crate::singles::is_single;
@@ -45,12 +46,20 @@ pub fn skip_qualifier(s: &[u8], at: usize) -> usize
     skip_option(s, at, 1)
 }
 
+// The place past a Vec of values of so many bytes.
+fn skip_sized(s: &[u8], at: usize, size: usize) -> usize
+    requires { (at < length s.now) × (at + 1 + get_or s.now at 0 * size ≤ length s.now) }
+    ensures { result ≡ at + 1 + get_or s.now at 0 * size }
+{
+    at + 1 + usize::from(s[at]) * size
+}
+
 // Past a Vec of names.
 pub fn skip_names(s: &[u8], at: usize) -> usize
     requires { IsOk (vec (name (texts_of s.now)) s.now at) }
     ensures { result ≡ next_of (vec (name (texts_of s.now)) s.now at) }
 {
-    at + 1 + usize::from(s[at]) * 2
+    skip_sized(s, at, 2)
 }
 
 // Past the parameters of a function.
@@ -58,7 +67,20 @@ pub fn skip_params(s: &[u8], at: usize) -> usize
     requires { IsOk (vec (param (texts_of s.now)) s.now at) }
     ensures { result ≡ next_of (vec (param (texts_of s.now)) s.now at) }
 {
-    at + 1 + usize::from(s[at]) * 3
+    skip_sized(s, at, 3)
+}
+
+// The place past a Vec whose values are stepped over one by one.
+fn skip_vec<F: Fn(usize) -> usize>(s: &[u8], at: usize, skip: F) -> usize
+    requires at_in_bounds { at < length s.now }
+    requires callable { (i k : ℕ) → i < get_or s.now at 0 → Reached (F.post skip) i (at + 1) k → F.pre skip k }
+    ensures { Reached (F.post skip) (get_or s.now at 0) (at + 1) result }
+{
+    let mut k = at + 1;
+    for _ in 0..s[at] {
+        k = skip(k);
+    }
+    k
 }
 
 pub fn skip_operand(s: &[u8], at: usize) -> usize
@@ -86,11 +108,7 @@ pub fn skip_operands(s: &[u8], at: usize) -> usize
     requires { IsOk (vec (operand (texts_of s.now)) s.now at) }
     ensures { result ≡ next_of (vec (operand (texts_of s.now)) s.now at) }
 {
-    let mut k = at + 1;
-    for _ in 0..s[at] {
-        k = skip_operand(s, k);
-    }
-    k
+    skip_vec(s, at, |k| skip_operand(s, k))
 }
 
 pub fn skip_modifier(s: &[u8], at: usize) -> usize
@@ -108,11 +126,7 @@ pub(crate) fn skip_modifiers(s: &[u8], at: usize) -> usize
     requires { IsOk (vec (modifier (texts_of s.now)) s.now at) }
     ensures { result ≡ next_of (vec (modifier (texts_of s.now)) s.now at) }
 {
-    let mut k = at + 1;
-    for _ in 0..s[at] {
-        k = skip_modifier(s, k);
-    }
-    k
+    skip_vec(s, at, |k| skip_modifier(s, k))
 }
 
 // Past the range of a `for`.

@@ -17,7 +17,6 @@ use Rattle.context.specs.declared.GateSig.{GateSig as GateValue}
 use Rattle.std.specs.Prelude.{Option as Maybe, Some, None, true, false}
 use Rattle.std.specs.Option.{is_some}
 use Rattle.context.specs.declared.State.{State}
-use Rattle.context.specs.Sink.{SinkFits}
 use Rattle.context.specs.Values.{found_gate_of}
 use Rattle.context.specs.View.{number_at, span_at, scopes_of, gates_of, functions_of}
 use Rattle.lines.specs.declared.Message.{Message}
@@ -44,9 +43,9 @@ parts_of tree left at x k m n sp h b x-is k_is m-is n-is sp-is = record {
 
 -- what is said of the name: nothing where no gate was found
 module _ {t : List Text} (s : List ℕ) {o : List ℕ} {sink : Sink} (x : ℕ) (sp : Span) where
-  pub gate_unknown : (found : Maybe GateValue) → found_gate_of found ≡ gates_of s x → is_some found ≡ false → SinkFits sink → Emitted t (gate_known (gates_of s) x sp) sink o sink o
-  gate_unknown None e n f = rw (← e) (emitted-none f)
-  gate_unknown (Some g) e n f = absurd cc
+  pub gate_unknown : (found : Maybe GateValue) → found_gate_of found ≡ gates_of s x → is_some found ≡ false → Emitted t (gate_known (gates_of s) x sp) sink o sink o
+  gate_unknown None e n = rw (← e) emitted-none
+  gate_unknown (Some g) e n = absurd cc
 
   pub gate_known_lem : {o' : List ℕ} {r : Sink} {d : Diagnostic} (found : Maybe GateValue) → found_gate_of found ≡ gates_of s x → is_some found ≡ true → d ≡ error_of (Message.GateAlreadyDefined x) sp → Reported t d sink o r o' → Emitted t (gate_known (gates_of s) x sp) sink o r o'
   gate_known_lem None e n d p = absurd cc

@@ -22,7 +22,6 @@ use Rattle.sema.specs.Stmts.{step_says, range_says}
 use Rattle.context.specs.declared.After.{After}
 use Rattle.context.specs.declared.Sink.{Sink}
 use Rattle.context.specs.declared.State.{State}
-use Rattle.context.specs.Sink.{SinkFits}
 use Rattle.context.specs.View.{number_at, span_at, type_of, scopes_of, gates_of, functions_of}
 use Rattle.lines.specs.declared.Message.{Message}
 use Rattle.lines.specs.declared.Diagnostic.{Diagnostic as DiagnosticValue}
@@ -65,9 +64,9 @@ module _ (ss : Symbols) (fs : Table FunctionSig) (t : List Text) (s : List ℕ) 
 
   -- the step
   module _ (h : IsOk (option (held t) s at)) {sink : Sink} {o : List ℕ} where
-    pub step-none : get_or s at 0 ≡ 0 → SinkFits sink → Emitted t (given [] (step_says (plain_context ss fs)) (option (held t) s at)) sink o sink o
+    pub step-none : get_or s at 0 ≡ 0 → Emitted t (given [] (step_says (plain_context ss fs)) (option (held t) s at)) sink o sink o
     unfolding step_says
-    step-none z f = emitted_as (emitted-none f) (sym (given_is (option-none s at (held t) h z) [] (step_says (plain_context ss fs))))
+    step-none z = emitted_as emitted-none (sym (given_is (option-none s at (held t) h z) [] (step_says (plain_context ss fs))))
 
     pub step-some : {o' : List ℕ} {a : After} → (get_or s at 0 ≡ 0 → ⊥) → SaidOf t (must_be_int Messages.range_step) (held t s (at + 1)) sink o a o' → Emitted t (given [] (step_says (plain_context ss fs)) (option (held t) s at)) sink o a.sink o'
     unfolding step_says

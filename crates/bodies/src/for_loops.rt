@@ -5,9 +5,8 @@ ghost use Rattle.tree.specs.Read.{option};
 ghost use Rattle.tree.specs.Stmts.{stmt, held, for_range};
 ghost use Rattle.tree.specs.Decode.{texts_of};
 ghost use Rattle.sema.specs.Stmts.{step_says};
-ghost use Rattle.context.specs.Sink.{SinkFits};
 ghost use Rattle.context.specs.Given.{texts, scopes, functions};
-ghost use Rattle.context.specs.View.{scopes_of, functions_of, TextsAt};
+ghost use Rattle.context.specs.View.{scopes_of, functions_of};
 ghost use Rattle.promises.specs.Emitted.{Emitted};
 ghost use Rattle.promises.specs.Typings.{plain_context};
 ghost use Rattle.bodies.specs.Parts.{ForPartsOf, variable_says, bounds_say};
@@ -56,7 +55,6 @@ pub fn report_type(
     span: Span,
     sink: Sink,
 ) -> Sink
-    requires { SinkFits sink }
     ensures { Emitted (texts sema.entry) (variable_says ty span) sink out.old result out.new }
 {
     if ty == ClassicalType::Int {
@@ -65,8 +63,7 @@ pub fn report_type(
     lines::report(
         out,
         sink,
-        sema.tree,
-        sema.index,
+        sema.texts,
         lines::error(Message::ForVariable, span),
     )
 }
@@ -74,10 +71,10 @@ pub fn report_type(
 // The step of a range, where there is one.
 #[tactic(auto, using(crate::proofs::Loops::steps))]
 fn check_step(sema: SemaContext<'_>, out: &mut [u8], at: usize, sink: Sink) -> Sink
-    requires { SinkFits sink × IsOk (option (held (texts sema)) sema.tree.now at) }
-    ensures { Emitted (texts sema.entry) (given [] (step_says (plain_context (scopes sema.entry) (functions sema.entry))) (option (held (texts sema.entry)) sema.entry.tree.now at)) sink out.old result out.new }
+    requires { IsOk (option (held (texts sema)) sema.texts.tree.now at) }
+    ensures { Emitted (texts sema.entry) (given [] (step_says (plain_context (scopes sema.entry) (functions sema.entry))) (option (held (texts sema.entry)) sema.entry.texts.tree.now at)) sink out.old result out.new }
 {
-    if sema.tree[at] == 0 {
+    if sema.texts.tree[at] == 0 {
         return sink;
     }
     typing::require_type(
@@ -94,8 +91,8 @@ fn check_step(sema: SemaContext<'_>, out: &mut [u8], at: usize, sink: Sink) -> S
 // The bounds of a range, and its step.
 #[tactic(auto, using(crate::proofs::Loops::ranges))]
 pub fn check_range(sema: SemaContext<'_>, out: &mut [u8], at: usize, sink: Sink) -> Sink
-    requires { SinkFits sink × IsOk (for_range (texts sema) sema.tree.now at) }
-    ensures { Emitted (texts sema.entry) (given [] (bounds_say (plain_context (scopes sema.entry) (functions sema.entry))) (for_range (texts sema.entry) sema.entry.tree.now at)) sink out.old result out.new }
+    requires { IsOk (for_range (texts sema) sema.texts.tree.now at) }
+    ensures { Emitted (texts sema.entry) (given [] (bounds_say (plain_context (scopes sema.entry) (functions sema.entry))) (for_range (texts sema.entry) sema.entry.texts.tree.now at)) sink out.old result out.new }
 {
     let a = typing::require_type(sema, out, at, ClassicalType::Int, Place::RangeBound, sink);
     let b = typing::require_type(

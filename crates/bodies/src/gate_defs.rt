@@ -5,9 +5,8 @@ ghost use Rattle.tree.specs.Read.{vec};
 ghost use Rattle.tree.specs.Exprs.{name};
 ghost use Rattle.tree.specs.Stmts.{stmt};
 ghost use Rattle.tree.specs.Decode.{texts_of};
-ghost use Rattle.context.specs.Sink.{SinkFits};
 ghost use Rattle.context.specs.Given.{texts};
-ghost use Rattle.context.specs.View.{gates_of, TextsAt};
+ghost use Rattle.context.specs.View.{gates_of};
 ghost use Rattle.accepted.specs.Parts.{value_or};
 ghost use Rattle.promises.specs.Emitted.{Emitted};
 ghost use Rattle.bodies.specs.Opened.{gate_known};
@@ -49,7 +48,7 @@ pub fn gate_parts(tree: &[u8], at: usize, left: usize) -> GateParts
 // A name that a gate has is reported, and the definition replaces the other.
 #[tactic(auto, using(crate::proofs::Gates::reports))]
 pub fn report_gate(sema: SemaContext<'_>, out: &mut [u8], x: usize, span: Span, sink: Sink) -> Sink
-    requires { SinkFits sink × (x < length (texts sema)) }
+    requires { x < length (texts sema) }
     ensures { Emitted (texts sema.entry) (gate_known (gates_of sema.entry.scratch.now) x span) sink out.old result out.new }
 {
     if tables::gate(sema.scratch, x).is_none() {
@@ -58,8 +57,7 @@ pub fn report_gate(sema: SemaContext<'_>, out: &mut [u8], x: usize, span: Span, 
     lines::report(
         out,
         sink,
-        sema.tree,
-        sema.index,
+        sema.texts,
         lines::error(Message::GateAlreadyDefined(x), span),
     )
 }

@@ -9,14 +9,12 @@ ghost use Rattle.tree.specs.Ans.{IsOk};
 ghost use Rattle.tree.specs.Stmts.{stmt, held};
 ghost use Rattle.tree.specs.Decode.{texts_of};
 ghost use Rattle.sema.specs.Messages as Messages;
-ghost use Rattle.context.specs.Sink.{SinkFits};
-ghost use Rattle.context.specs.View.{TextsAt};
 ghost use Rattle.lines.specs.Values.{place_of};
 ghost use Rattle.promises.specs.Walks.{state_of};
 ghost use Rattle.bodies.specs.Opened.{GateOpened, ConditionOpened, ForOpened};
 
 use ast::ClassicalType;
-use context::{After, Index, SemaContext, Sink};
+use context::{After, SemaContext, Sink, Texts};
 use for_loops::{check_range, for_parts, report_type};
 use gate_defs::{define_gate, gate_parts, report_gate};
 use lines::Place;
@@ -24,26 +22,24 @@ use lines::Place;
 // The gate is defined, and its body opened.
 #[tactic(auto, using(crate::proofs::Gates::gates))]
 pub fn open_gate(
-    tree: &[u8],
-    index: &Index,
+    texts: Texts<'_>,
     scratch: &mut [u8],
     out: &mut [u8],
     left: usize,
     at: usize,
     sink: Sink,
 ) -> After
-    requires { TextsAt tree.now index.now × (length tree.now ≤ 16384) × (65536 ≤ length scratch.old) × SinkFits sink × IsOk (stmt (texts_of tree.now) left tree.now at) × (left ≤ 8) × (get_or tree.now at 0 ≡ 6) }
-    ensures { (marks : List ℕ) → GateOpened tree.now left (state_of at sink marks) scratch.old out.old (state_of result.next result.sink marks) scratch.new out.new }
+    requires { (length texts.tree.now ≤ 16384) × (65536 ≤ length scratch.old) × IsOk (stmt (texts_of texts.tree.now) left texts.tree.now at) × (left ≤ 8) × (get_or texts.tree.now at 0 ≡ 6) }
+    ensures { (marks : List ℕ) → GateOpened texts.entry.tree.now left (state_of at sink marks) scratch.old out.old (state_of result.next result.sink marks) scratch.new out.new }
 {
-    let parts = gate_parts(tree, at, left);
+    let parts = gate_parts(texts.tree, at, left);
     let sema = SemaContext {
-        tree,
-        index,
+        texts,
         scratch,
         depth: 9 - left,
     };
     let said = report_gate(sema, out, parts.name, parts.span, sink);
-    define_gate(tree, scratch, 9 - left, at + 3, parts);
+    define_gate(texts.tree, scratch, 9 - left, at + 3, parts);
     After {
         next: parts.body_at,
         sink: said,
@@ -52,8 +48,7 @@ pub fn open_gate(
 
 // A condition, and an empty scope for what stands behind it.
 fn open_condition(
-    tree: &[u8],
-    index: &Index,
+    texts: Texts<'_>,
     scratch: &mut [u8],
     out: &mut [u8],
     left: usize,
@@ -61,12 +56,11 @@ fn open_condition(
     sink: Sink,
     place: Place,
 ) -> After
-    requires { TextsAt tree.now index.now × (length tree.now ≤ 16384) × (65536 ≤ length scratch.old) × SinkFits sink × (at < length tree.now) × IsOk (held (texts_of tree.now) tree.now (at + 1)) × (0 < left) × (left ≤ 8) }
-    ensures { (marks : List ℕ) → ConditionOpened (place_of place) tree.now left (state_of at sink marks) scratch.old out.old (state_of result.next result.sink marks) scratch.new out.new }
+    requires { (length texts.tree.now ≤ 16384) × (65536 ≤ length scratch.old) × (at < length texts.tree.now) × IsOk (held (texts_of texts.tree.now) texts.tree.now (at + 1)) × (0 < left) × (left ≤ 8) }
+    ensures { (marks : List ℕ) → ConditionOpened (place_of place) texts.entry.tree.now left (state_of at sink marks) scratch.old out.old (state_of result.next result.sink marks) scratch.new out.new }
 {
     let sema = SemaContext {
-        tree,
-        index,
+        texts,
         scratch,
         depth: 9 - left,
     };
@@ -78,72 +72,50 @@ fn open_condition(
 // Each case of a statement has its function: an `if` and a `while` are opened alike.
 #[tactic(auto, using(crate::proofs::Loops::conditions))]
 pub fn open_if(
-    tree: &[u8],
-    index: &Index,
+    texts: Texts<'_>,
     scratch: &mut [u8],
     out: &mut [u8],
     left: usize,
     at: usize,
     sink: Sink,
 ) -> After
-    requires { TextsAt tree.now index.now × (length tree.now ≤ 16384) × (65536 ≤ length scratch.old) × SinkFits sink × IsOk (stmt (texts_of tree.now) left tree.now at) × (left ≤ 8) × (get_or tree.now at 0 ≡ 12) }
-    ensures { (marks : List ℕ) → ConditionOpened Messages.if_condition tree.now left (state_of at sink marks) scratch.old out.old (state_of result.next result.sink marks) scratch.new out.new }
+    requires { (length texts.tree.now ≤ 16384) × (65536 ≤ length scratch.old) × IsOk (stmt (texts_of texts.tree.now) left texts.tree.now at) × (left ≤ 8) × (get_or texts.tree.now at 0 ≡ 12) }
+    ensures { (marks : List ℕ) → ConditionOpened Messages.if_condition texts.entry.tree.now left (state_of at sink marks) scratch.old out.old (state_of result.next result.sink marks) scratch.new out.new }
 {
-    open_condition(
-        tree,
-        index,
-        scratch,
-        out,
-        left,
-        at,
-        sink,
-        Place::IfCondition,
-    )
+    open_condition(texts, scratch, out, left, at, sink, Place::IfCondition)
 }
 
 #[tactic(auto, using(crate::proofs::Loops::conditions))]
 pub fn open_while(
-    tree: &[u8],
-    index: &Index,
+    texts: Texts<'_>,
     scratch: &mut [u8],
     out: &mut [u8],
     left: usize,
     at: usize,
     sink: Sink,
 ) -> After
-    requires { TextsAt tree.now index.now × (length tree.now ≤ 16384) × (65536 ≤ length scratch.old) × SinkFits sink × IsOk (stmt (texts_of tree.now) left tree.now at) × (left ≤ 8) × (get_or tree.now at 0 ≡ 14) }
-    ensures { (marks : List ℕ) → ConditionOpened Messages.while_condition tree.now left (state_of at sink marks) scratch.old out.old (state_of result.next result.sink marks) scratch.new out.new }
+    requires { (length texts.tree.now ≤ 16384) × (65536 ≤ length scratch.old) × IsOk (stmt (texts_of texts.tree.now) left texts.tree.now at) × (left ≤ 8) × (get_or texts.tree.now at 0 ≡ 14) }
+    ensures { (marks : List ℕ) → ConditionOpened Messages.while_condition texts.entry.tree.now left (state_of at sink marks) scratch.old out.old (state_of result.next result.sink marks) scratch.new out.new }
 {
-    open_condition(
-        tree,
-        index,
-        scratch,
-        out,
-        left,
-        at,
-        sink,
-        Place::WhileCondition,
-    )
+    open_condition(texts, scratch, out, left, at, sink, Place::WhileCondition)
 }
 
 // The bounds are checked, and the body opened.
 #[tactic(auto, using(crate::proofs::Loops::loops))]
 pub fn open_for(
-    tree: &[u8],
-    index: &Index,
+    texts: Texts<'_>,
     scratch: &mut [u8],
     out: &mut [u8],
     left: usize,
     at: usize,
     sink: Sink,
 ) -> After
-    requires { TextsAt tree.now index.now × (length tree.now ≤ 16384) × (65536 ≤ length scratch.old) × SinkFits sink × IsOk (stmt (texts_of tree.now) left tree.now at) × (left ≤ 8) × (get_or tree.now at 0 ≡ 13) }
-    ensures { (marks : List ℕ) → ForOpened tree.now left (state_of at sink marks) scratch.old out.old (state_of result.next result.sink marks) scratch.new out.new }
+    requires { (length texts.tree.now ≤ 16384) × (65536 ≤ length scratch.old) × IsOk (stmt (texts_of texts.tree.now) left texts.tree.now at) × (left ≤ 8) × (get_or texts.tree.now at 0 ≡ 13) }
+    ensures { (marks : List ℕ) → ForOpened texts.entry.tree.now left (state_of at sink marks) scratch.old out.old (state_of result.next result.sink marks) scratch.new out.new }
 {
-    let parts = for_parts(tree, at, left);
+    let parts = for_parts(texts.tree, at, left);
     let sema = SemaContext {
-        tree,
-        index,
+        texts,
         scratch,
         depth: 9 - left,
     };

@@ -4,7 +4,7 @@ use mathlib.Core.Path.{◌≡◌, refl, sym, ap, ◌∙◌}
 use mathlib.Core.List.{List, [], ◌∷◌, ◌++◌}
 use native.Mathlib.Nat.{zero-add}
 use lib.ListN.{length, take, replicate}
-use Rattle.std.specs.Prelude.{None, Result, Ok, Err}
+use Rattle.std.specs.Prelude.{Option, None, Result, Ok, Err}
 use lib.Seq.{sets}
 use borrow.Author.Tests.{lt-ltb, le-ltb}
 use Rattle.ast.specs.Tree.{Program, no_stmt}
@@ -27,12 +27,11 @@ use Rattle.refusal.specs.Refusal.{number_of}
 use Rattle.verdict.specs.declared.Listed.{Listed}
 use Rattle.verdict.specs.Verdict.{answer_of, head_of, Learnt, Listable}
 use Rattle.verdict.proofs.Judging.{few_of, judged-fine, listed-fine}
-use Rattle.checker.specs.declared.Outcome.{Outcome}
 use Rattle.checker.specs.Check.{SameRest, program_listing, listing_for, Judged, JudgedFile, Ran, Known}
 use Rattle.checker.proofs.Runs.{written}
 
 -- what the second walk leaves
-pub listing-written : (p : Program) → length (keys p) ≤ key_limit → (sink : Sink) → Learnt p sink → sink.errors + sink.warnings ≤ 256 → (l : List ℕ) → {s : List ℕ} {n : ℕ} {o : List ℕ} {r : Outcome} {s' o' : List ℕ}
+pub listing-written : (p : Program) → length (keys p) ≤ key_limit → (sink : Sink) → Learnt p sink → sink.errors + sink.warnings ≤ 256 → (l : List ℕ) → {s : List ℕ} {n : ℕ} {o : List ℕ} {r : Option Sink} {s' o' : List ℕ}
     → o ≡ sets l 0 (head_of sink.errors sink.warnings) → n ≡ 0 + length (head_of sink.errors sink.warnings)
     → Ran p n s o r s' o' → o' ≡ sets l 0 (program_listing p)
 unfolding first_line

@@ -12,7 +12,7 @@ use Rattle.tree.specs.Decode.{texts_of, decode}
 use Rattle.sema.specs.Marks.{Key, no_marks}
 use Rattle.sema.specs.Stmts.{new}
 use Rattle.context.specs.declared.State.{State}
-use Rattle.context.specs.View.{TextsAt, Placed, keys_from, marks_of, context_of}
+use Rattle.context.specs.View.{Placed, keys_from, marks_of, context_of}
 use Rattle.sheet.specs.Sheet.{Distinct}
 use Rattle.tables.specs.Tables.{Begun}
 use Rattle.tables.specs.Laws.{few-empty}
@@ -29,20 +29,19 @@ module _ (tree : List ℕ) (h : IsOk (decode tree)) (at : ℕ) (e : at ≡ next_
   pub program-body : IsOk (body (stmt (texts_of tree) 8) tree at)
   program-body = file-body tree h at e
 
--- a run may start with any index that has the texts
-pub program-walkable : (tree index : List ℕ) → IsOk (decode tree) → TextsAt tree index → Walkable tree index 0
+-- a run may start with any index
+pub program-walkable : (tree index : List ℕ) → IsOk (decode tree) → length index ≡ 512 → Walkable tree index 0
 unfolding keys_from Distinct
-program-walkable tree index h x = record { small = file-small tree h; texts = x; indexed = record { size = x.size; few = omega arith }; distinct = tt }
+program-walkable tree index h x = record { small = file-small tree h; indexed = record { size = x; few = omega arith }; distinct = tt }
 
 -- a scratch with which a walk begins and a blank sheet are the context that an analysis begins with
 pub new_context : (tree : List ℕ) (ks : List Key) {s t : List ℕ} (m : List ℕ) → Begun s t → marks_of tree ks m ≡ no_marks → context_of tree ks t 1 m ≡ new
 new_context tree ks m n e = λ i. record { symbols = n.scopes_are i; gates = n.gates_are i; functions = n.functions_are i; measured = e i }
 
-pub ready-new : (tree : List ℕ) {s t : List ℕ} (st : State) → Begun s t → 65536 ≤ length s → Placed tree st.marks → st.sink.errors ≡ 0 → st.sink.warnings ≡ 0 → st.sink.n ≤ 1024 → Ready tree t st
-ready-new tree st b room p e w n =
+pub ready-new : (tree : List ℕ) {s t : List ℕ} (st : State) → Begun s t → 65536 ≤ length s → Placed tree st.marks → Ready tree t st
+ready-new tree st b room p =
     record {
       room = omega (arith, b.same_length);
       few = rw b.functions_are few-empty;
       placed = p;
-      fits = record { few = omega arith; short = omega arith };
     }

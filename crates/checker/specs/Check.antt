@@ -1,5 +1,5 @@
 -- What the parts of the public function promise.
-use Rattle.std.specs.Prelude.{ℕ, suc, ◌≤◌, ◌<◌, min, ◌≡◌, List, ◌++◌, length, take, drop, Result, Ok, Err}
+use Rattle.std.specs.Prelude.{ℕ, ◌≤◌, ◌<◌, ◌≡◌, List, ◌++◌, length, take, drop, Option, Some, None, Result, Ok, Err}
 use Rattle.std.specs.Coded.{Unit-prop}
 use Rattle.ast.specs.Tree.{Program}
 use Rattle.tree.specs.Ans.{Ans, ok, refused, IsOk}
@@ -9,26 +9,19 @@ use Rattle.sema.specs.Keys.{keys as keys_of}
 use Rattle.sema.specs.Stmts.{analyze}
 use Rattle.listing.specs.Listing.{listing_of}
 use Rattle.context.specs.declared.Sink.{Sink}
-use Rattle.lines.specs.EmitLaws.{all_bytes}
+use Rattle.context.specs.Sink.{written_of, emit}
+use Rattle.lines.specs.EmitLaws.{all_bytes, empty}
 use Rattle.answer.specs.Answer.{Answer, accepted, refusal, judge_file, listing_after}
-use Rattle.promises.specs.Emitted.{Emitted}
 use Rattle.refusal.specs.declared.Refused.{Refused}
 use Rattle.refusal.specs.declared.Refusal.TheVariants.{ManyKeys}
-use Rattle.context.specs.View.{TextsAt}
 use Rattle.verdict.specs.declared.Listed.{Listed}
 use Rattle.verdict.specs.Verdict.{answer_of, Learnt}
-use Rattle.checker.specs.declared.Outcome.{Outcome}
 
 -- the bytes of a file are accepted in one way at most
 pub IsOk-prop : {A : Type 0} (x : Ans A) → IsProp (IsOk x)
 unfolding IsOk
 IsOk-prop (ok a next) = Unit-prop
 IsOk-prop (refused number place) = λ x y. absurd x
-
--- what a walk over an accepted file is lent: an index with the places of its texts, and a scratch that is long enough
-pub record Prepared (tree index scratch : List ℕ) : Type 0 where
-  pub placed : TextsAt tree index
-  pub room : 65536 ≤ length scratch
 
 -- the scratch past what a call uses stays
 pub record SameRest (s s' : List ℕ) : Type 0 where
@@ -55,14 +48,14 @@ pub record JudgedFile (tree s l : List ℕ) (r : Result Listed Refused) (s' l' :
   pub listed : l' ≡ listing_after tree l (judge_file (length l) (decode tree))
   pub scratch : SameRest s s'
 
--- a sink with n bytes written and nothing counted
-abbrev pub sink_at : ℕ → Sink
-sink_at n = record { n = n; errors = 0; warnings = 0 }
+-- the keys are few, and the diagnostics of the program were said behind n bytes; or they are too many
+abbrev pub Said : Program → ℕ → List ℕ → Option Sink → List ℕ → Type 0
+Said p n o (Some sink) o' = (length (keys_of p) ≤ key_limit) × (written_of sink o' ≡ emit p.texts (analyze p) (empty o n))
+Said p n o None o' = key_limit < length (keys_of p)
 
--- one run of the walk from its beginning: how many keys there are, and where they are few the diagnostics of the program behind n bytes
-pub record Ran (p : Program) (n : ℕ) (s o : List ℕ) (r : Outcome) (s' o' : List ℕ) : Type 0 where
-  pub counted : r.keys ≡ min (length (keys_of p)) (suc key_limit)
-  pub emitted : length (keys_of p) ≤ key_limit → Emitted p.texts (analyze p) (sink_at n) o r.sink o'
+-- one run of the walk from its beginning
+pub record Ran (p : Program) (n : ℕ) (s o : List ℕ) (r : Option Sink) (s' o' : List ℕ) : Type 0 where
+  pub said : Said p n o r o'
   pub scratch : SameRest s s'
 
 -- what the first run tells where the keys are few: what there is to list, and its lines at the beginning of a stage that has room for them

@@ -8,7 +8,7 @@ use Rattle.context.specs.View.{scopes_of, gates_of, functions_of}
 
 -- its texts, its scopes, and its functions
 abbrev pub texts : SemaContext → List Text
-texts c = texts_of c.tree.now
+texts c = texts_of c.texts.tree.now
 
 abbrev pub scopes : SemaContext → Symbols
 scopes c = scopes_of c.scratch.now c.depth

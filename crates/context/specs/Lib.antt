@@ -2,4 +2,3 @@ pub mod Values
 pub mod Sink
 pub mod View
 pub mod Given
-pub mod Kept

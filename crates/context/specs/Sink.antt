@@ -1,6 +1,6 @@
 -- The listing as it grows: each diagnostic's lines are stored where the buffer has room. After one diagnostic more than the limit nothing
 -- is added: the call will be refused.
-use Rattle.std.specs.Prelude.{ℕ, suc, ◌+◌, ◌*◌, ◌≤◌, List, [], ◌∷◌, true, false, length, leb}
+use Rattle.std.specs.Prelude.{ℕ, suc, ◌+◌, List, [], ◌∷◌, true, false, length, leb}
 use Rattle.std.proofs.lemmas.List.Edits.{sets}
 use Rattle.ast.specs.Tree.{Text}
 use Rattle.sema.specs.Limits.{diagnostic_limit}
@@ -33,8 +33,3 @@ emit_one t d w = elim (leb (w.errors + w.warnings) diagnostic_limit) [ true ↦ 
 unfoldable pub emit : List Text → List Diagnostic → Written → Written
 emit t [] w = w
 emit t (d ∷ ds) w = emit t ds (emit_one t d w)
-
--- what holds of a sink throughout: no more diagnostics than one over the limit, and at most 1,024 bytes for each and for the first line
-pub record SinkFits (s : Sink) : Type 0 where
-  pub few : s.errors + s.warnings ≤ suc diagnostic_limit
-  pub short : s.n ≤ 1024 * suc (s.errors + s.warnings)

@@ -106,18 +106,17 @@ function_by s at (suc flag) =
 unfoldable pub functions_of : List ℕ → Table FunctionSig
 functions_of s x = below256 x (function_by s (function_place x) (get_or s (function_place x) 0))
 
--- The index: the places of the texts' length bytes, then two numbers for each key: twice its name, and 1 more if it has an index; the index.
+-- the places of the texts' length bytes
 abbrev pub text_place : List ℕ → TextNumber → ℕ
-text_place index x = get_or index x 0
+text_place places x = get_or places x 0
 
-abbrev pub key_base : ℕ
-key_base = 256
+-- The index: two numbers for each key, twice its name, and 1 more if it has an index; the index.
 
 unfoldable pub key_by : ℕ → ℕ → Key
 key_by head i = elim (head % 2) [ zero ↦ key (head / 2) none | suc b ↦ key (head / 2) (some i) ]
 
 abbrev pub key_at : List ℕ → ℕ → Key
-key_at index k = key_by (get_or index (key_base + 2 * k) 0) (get_or index (key_base + 2 * k + 1) 0)
+key_at index k = key_by (get_or index (2 * k) 0) (get_or index (2 * k + 1) 0)
 
 -- so many keys from number k on
 unfoldable pub keys_from : List ℕ → ℕ → ℕ → List Key
@@ -127,16 +126,16 @@ keys_from index k (suc n) = key_at index k ∷ keys_from index (suc k) n
 abbrev pub keys_in : List ℕ → ℕ → List Key
 keys_in index n = keys_from index 0 n
 
--- the text with a number stands in the tree where the index says
-pub record TextAt (tree index : List ℕ) (x : TextNumber) : Type 0 where
-  pub inside : text_place index x + 1 + get_or tree (text_place index x) 0 ≤ length tree
-  pub same : part (text_place index x + 1) (text_place index x + 1 + get_or tree (text_place index x) 0) tree ≡ get_or (texts_of tree) x []
-  pub short : get_or tree (text_place index x) 0 ≤ 64
+-- the text with a number stands in the tree at its place
+pub record TextAt (tree places : List ℕ) (x : TextNumber) : Type 0 where
+  pub inside : text_place places x + 1 + get_or tree (text_place places x) 0 ≤ length tree
+  pub same : part (text_place places x + 1) (text_place places x + 1 + get_or tree (text_place places x) 0) tree ≡ get_or (texts_of tree) x []
+  pub short : get_or tree (text_place places x) 0 ≤ 64
 
-pub record TextsAt (tree index : List ℕ) : Type 0 where
-  pub size : length index ≡ 768
+pub record TextsAt (tree places : List ℕ) : Type 0 where
+  pub size : length places ≡ 256
   pub few : length (texts_of tree) ≤ 256
-  pub each : (x : ℕ) → x < length (texts_of tree) → TextAt tree index x
+  pub each : (x : ℕ) → x < length (texts_of tree) → TextAt tree places x
 
 -- The mark sheet: for each key the place of the measure statement that marked it, or 0.
 unfoldable pub place_in : List Key → List ℕ → Key → ℕ

@@ -2,8 +2,10 @@
 #![tactic(auto)]
 
 mod sema_context;
+mod texts;
 
-ghost use Rattle.std.specs.Prelude.{◌≡◌};
+ghost use Rattle.std.specs.Prelude.{◌≡◌, suc, ◌+◌, ◌*◌, ◌≤◌};
+ghost use Rattle.sema.specs.Limits.{diagnostic_limit};
 ghost use Rattle.sema.specs.Messages.{a_bit};
 ghost use Rattle.sema.specs.Operands.{fits};
 ghost use Rattle.context.specs.Values.{kind_of};
@@ -11,9 +13,13 @@ ghost use Rattle.context.specs.Values.{kind_of};
 use ast::ClassicalType;
 pub use sema_context::SemaContext;
 use span::Span;
+pub use texts::Texts;
 
-// The places of the texts, then two numbers for each key.
-pub type Index = [u64; 768];
+// The places of the texts of a tree.
+pub type Places = [u64; 256];
+
+// The index: two numbers for each key.
+pub type Index = [u64; 512];
 
 // A value that was read, and the place past it.
 #[derive(Clone, Copy)]
@@ -70,12 +76,15 @@ pub struct FunctionSig {
     pub decl_span: Span,
 }
 
-// How far the listing is: its length, and the diagnostics in it. It is passed by value everywhere, so it is 8 bytes.
+// How far the listing is: its length, and the diagnostics in it. They are no more than one over the limit, and there are at most 1,024 bytes
+// for each and for the first line. It is passed by value everywhere, so it is 8 bytes.
 #[derive(Clone, Copy)]
 pub struct Sink {
     pub n: u32,
     pub errors: u16,
     pub warnings: u16,
+    pub ghost few: { errors + warnings ≤ suc diagnostic_limit },
+    pub ghost short: { n ≤ 1024 * suc (errors + warnings) },
 }
 
 // What an expression is found to be, the place past it, and the listing after what is said of it.
@@ -93,7 +102,7 @@ pub struct After {
     pub sink: Sink,
 }
 
-// The walk on its way: the place in the tree, the listing, how many keys there are in the index, the marks.
+// The walk on its way: the place in the tree, the listing, how many keys there are, the marks.
 #[derive(Clone, Copy)]
 pub struct State {
     pub at: usize,

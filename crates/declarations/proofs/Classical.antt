@@ -34,7 +34,6 @@ use Rattle.context.specs.declared.Sink.{Sink}
 use Rattle.context.specs.declared.Typing.{Typing}
 use Rattle.context.specs.declared.Symbol.{Symbol as SymbolValue}
 use Rattle.context.specs.declared.State.{State}
-use Rattle.context.specs.Sink.{SinkFits}
 use Rattle.context.specs.Values.{typed_of}
 use Rattle.context.specs.View.{span_at, type_of, scopes_of, functions_of}
 use Rattle.tables.specs.Laws.{few-after}
@@ -65,9 +64,9 @@ module _ (tree : List ℕ) (at : ℕ) (h : IsOk (option (held (texts_of tree)) t
       by (suc b) e = rw (init_some (λ z. let f : suc b ≡ 0 = sym e ∙ z in omega arith), ne_eqb (suc b) 0 (λ f. omega arith))
 
   module _ (ss : Symbols) (fs : Table FunctionSig) {s : Sink} {o : List ℕ} where
-    pub init_absent : (ty : ClassicalType) (x : ℕ) → get_or tree at 0 ≡ 0 → SinkFits s → Emitted (texts_of tree) (init_says ss fs ty x (init_at tree at)) s o s o
+    pub init_absent : (ty : ClassicalType) (x : ℕ) → get_or tree at 0 ≡ 0 → Emitted (texts_of tree) (init_says ss fs ty x (init_at tree at)) s o s o
     unfolding init_says
-    init_absent ty x e f = silent (rw (init_none e)) f
+    init_absent ty x e = silent (rw (init_none e))
 
     pub init_checked : {t : Typing} {o' : List ℕ} {r : Sink} {o'' : List ℕ} (ty : ClassicalType) (x : ℕ) → (get_or tree at 0 ≡ 0 → ⊥) → TypingOf (texts_of tree) ss fs (held (texts_of tree) tree (at + 1)) s o t o'
         → Emitted (texts_of tree) (mismatch (λ actual. error (Messages.cannot_initialize ty x actual) (span_at tree (t.next - 8))) ty (typed_of t.typed)) t.sink o' r o'' → Emitted (texts_of tree) (init_says ss fs ty x (init_at tree at)) s o r o''

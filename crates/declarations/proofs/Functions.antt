@@ -28,7 +28,6 @@ use Rattle.context.specs.declared.Typing.{Typing}
 use Rattle.context.specs.declared.FunctionSig.{FunctionSig as FunctionValue}
 use Rattle.std.specs.Prelude.{Option as Maybe, Some, None}
 use Rattle.context.specs.declared.State.{State}
-use Rattle.context.specs.Sink.{SinkFits}
 use Rattle.context.specs.Values.{typed_of}
 use Rattle.context.specs.View.{number_at, span_at, type_of, scopes_of, gates_of, functions_of}
 use Rattle.tables.specs.Tables.{Becomes, FunctionDefined, FewParams, brief_of, function_in}
@@ -115,16 +114,16 @@ module _ (tree : List ℕ) (at : ℕ) (f : Function) {s : Sink} {scratch o : Lis
         emitted = emitted_as m (says-again _ prev f.name f.span had);
       }
 
-  pub defined-new : {scratch' : List ℕ} (found : Maybe FunctionValue) (n : ℕ) → IsOk (vec (param (texts_of tree)) tree at) → SinkFits s → found ≡ brief_of (functions_of scratch f.name) → found ≡ None → n ≡ get_or tree at 0
+  pub defined-new : {scratch' : List ℕ} (found : Maybe FunctionValue) (n : ℕ) → IsOk (vec (param (texts_of tree)) tree at) → found ≡ brief_of (functions_of scratch f.name) → found ≡ None → n ≡ get_or tree at 0
       → FunctionDefined scratch scratch' f.name (function_in tree (at + 1) n f.return_type f.span) → Defined tree at f s scratch o s scratch' o
   unfolding defined_says
-  defined-new found n h fits e g c b =
+  defined-new found n h e g c b =
       let new = brief_none (functions_of scratch f.name) (sym g ∙ e) in
       let same = ap (insert (functions_of scratch) f.name) (function_is tree at h n c f.return_type f.span) ∙ sym (define_new (functions_of scratch) f.name (params_at tree at) f.return_type f.span new) in
       record {
         becomes = λ depth l. functions_as same (b depth l);
         few = few-after (b 0 (omega arith)) (few-defined (functions_of scratch) tree f.name (at + 1) n f.return_type f.span few (params-few tree at h n c));
-        emitted = silent (rw new) fits;
+        emitted = silent (rw new);
       }
 
 -- its body

@@ -15,7 +15,6 @@ use Rattle.sema.specs.Exprs.{expr_span, mismatch}
 use Rattle.sema.specs.Stmts.{is_assign, assign_says}
 use Rattle.ast.specs.declared.AssignOp.{AssignOp}
 use Rattle.context.specs.declared.Sink.{Sink}
-use Rattle.context.specs.Sink.{SinkFits}
 use Rattle.context.specs.Values.{typed_of}
 use Rattle.lines.specs.declared.Message.{Message}
 use Rattle.lines.specs.Values.{diagnostic_of, error_of}
@@ -24,12 +23,12 @@ use Rattle.declarations.specs.Says.{spanned}
 
 module _ {t : List Text} {s : Sink} {o : List ℕ} where
   -- nothing is said
-  pub silent : {ds : List Diagnostic} → ds ≡ [] → SinkFits s → Emitted t ds s o s o
-  silent e f = emitted_as (emitted-none f) (sym e)
+  pub silent : {ds : List Diagnostic} → ds ≡ [] → Emitted t ds s o s o
+  silent e = emitted_as emitted-none (sym e)
 
-  pub mismatch-none : (d : ClassicalType → Diagnostic) (expected : ClassicalType) (ty : Maybe ClassicalType) → ty ≡ None → SinkFits s → Emitted t (mismatch d expected (typed_of ty)) s o s o
+  pub mismatch-none : (d : ClassicalType → Diagnostic) (expected : ClassicalType) (ty : Maybe ClassicalType) → ty ≡ None → Emitted t (mismatch d expected (typed_of ty)) s o s o
   unfolding mismatch
-  mismatch-none d expected ty e h = silent (rw e) h
+  mismatch-none d expected ty e = silent (rw e)
 
   module _ {r : Sink} {o' : List ℕ} where
     pub assign_some : {q : Sink} {o'' : List ℕ} (x : ℕ) (op : AssignOp) (v sp : Span) (expected actual : ClassicalType) (ty : Maybe ClassicalType) → ty ≡ Some actual

@@ -14,28 +14,23 @@ use Rattle.accepted.specs.Parts.{value_or}
 use Rattle.context.specs.declared.Sink.{Sink}
 use Rattle.context.specs.declared.Symbol.{Symbol}
 use Rattle.context.specs.declared.Typing.{Typing}
-use Rattle.context.specs.Sink.{SinkFits}
 use Rattle.context.specs.Values.{number_of, kind_of}
-use Rattle.context.specs.View.{TextsAt, scopes_of, gates_of, functions_of}
+use Rattle.context.specs.View.{scopes_of, gates_of, functions_of}
 use Rattle.tables.specs.Tables.{Becomes, KeepsScopes, FewParams}
 use Rattle.promises.specs.Emitted.{Emitted}
 use Rattle.declarations.specs.declared.parts.Function.{Function}
 use Rattle.declarations.specs.Says.{defined_says, body_says}
 
--- the texts, the tables and the scopes that a check looks into
-pub record Checkable (tree index scratch : List ℕ) (depth : ℕ) (s : Sink) : Type 0 where
-  pub texts : TextsAt tree index
+-- the tables and the scopes that a check looks into
+pub record Checkable (scratch : List ℕ) (depth : ℕ) : Type 0 where
   pub room : 65536 ≤ length scratch
   pub deep : depth ≤ 9
-  pub fits : SinkFits s
 
 -- a value that was checked and ends in the tree, and a name that a report on it gives
-pub record Valued (tree index : List ℕ) (x : ℕ) (t : Typing) : Type 0 where
-  pub texts : TextsAt tree index
+pub record Valued (tree : List ℕ) (x : ℕ) (t : Typing) : Type 0 where
   pub named : x < length (texts_of tree)
   pub long : 8 ≤ t.next
   pub inside : t.next ≤ length tree
-  pub fits : SinkFits t.sink
 
 -- the scratch and the listing after a declaration
 pub record Declared (t : List Text) (depth x : ℕ) (symbol : Symbol) (s : Sink) (scratch o : List ℕ) (r : Sink) (scratch' o' : List ℕ) : Type 0 where

@@ -13,9 +13,8 @@ ghost use Rattle.tree.specs.Decode.{texts_of};
 ghost use Rattle.sema.specs.Symbols.{get};
 ghost use Rattle.sema.specs.Stmts.{init_says};
 ghost use Rattle.accepted.specs.Parts.{value_or};
-ghost use Rattle.context.specs.Sink.{SinkFits};
 ghost use Rattle.context.specs.Values.{typed_of};
-ghost use Rattle.context.specs.View.{TextsAt, span_at, type_of, scopes_of, functions_of};
+ghost use Rattle.context.specs.View.{span_at, type_of, scopes_of, functions_of};
 ghost use Rattle.tables.specs.Tables.{FewParams};
 ghost use Rattle.promises.specs.Emitted.{Emitted};
 ghost use Rattle.promises.specs.Walks.{Passable, StmtPassed};
@@ -25,7 +24,7 @@ ghost use Rattle.declarations.specs.Checked.{Checkable, Valued, Declared, init_a
 use accepted::numbers::{span_at, u16_at};
 use accepted::parts::skip_qualifier;
 use ast::ClassicalType;
-use context::{After, Index, SemaContext, Sink};
+use context::{After, SemaContext, Sink, Texts};
 use lines::{Message, Note};
 use parts::{Assignment, Function, assign_op_at, function_at};
 use reports::{
@@ -35,36 +34,34 @@ use scopes::{Declaration, qualifier_at, type_at};
 
 // Gives the name its symbol in the innermost scope; the first declaration stays.
 fn declare(
-    tree: &[u8],
-    index: &Index,
+    texts: Texts<'_>,
     scratch: &mut [u8],
     out: &mut [u8],
     depth: usize,
     d: Declaration,
     sink: Sink,
 ) -> Sink
-    requires { Checkable tree.now index.now scratch.old depth sink × (0 < depth) × (d.name < length (texts_of tree.now)) }
-    ensures { Declared (texts_of tree.now) depth d.name d.symbol sink scratch.old out.old result scratch.new out.new }
+    requires { Checkable scratch.old depth × (0 < depth) × (d.name < length (texts_of texts.tree.now)) }
+    ensures { Declared (texts_of texts.entry.tree.now) depth d.name d.symbol sink scratch.old out.old result scratch.new out.new }
 {
     let found = scopes::declare(scratch, depth, d.name, d.symbol);
-    report_declared(tree, index, out, found, d.name, d.symbol.decl_span, sink)
+    report_declared(texts, out, found, d.name, d.symbol.decl_span, sink)
 }
 
 // The declaration of a qubit or a bit.
 fn register(
-    tree: &[u8],
-    index: &Index,
+    texts: Texts<'_>,
     scratch: &mut [u8],
     out: &mut [u8],
     left: usize,
     at: usize,
     sink: Sink,
 ) -> After
-    requires { Passable tree.now index.now scratch.old sink × IsOk (stmt (texts_of tree.now) left tree.now at) × (left ≤ 8) × (0 < get_or tree.now at 0) × (get_or tree.now at 0 < 3) }
-    ensures { StmtPassed tree.now index.now left at sink scratch.old out.old result scratch.new out.new }
+    requires { Passable texts.tree.now scratch.old × IsOk (stmt (texts_of texts.tree.now) left texts.tree.now at) × (left ≤ 8) × (0 < get_or texts.tree.now at 0) × (get_or texts.tree.now at 0 < 3) }
+    ensures { StmtPassed texts.entry.tree.now left at sink scratch.old out.old result scratch.new out.new }
 {
-    let d = scopes::declaration_at(tree, at, left);
-    let s = declare(tree, index, scratch, out, 9 - left, d, sink);
+    let d = scopes::declaration_at(texts.tree, at, left);
+    let s = declare(texts, scratch, out, 9 - left, d, sink);
     After {
         next: d.end,
         sink: s,
@@ -73,40 +70,37 @@ fn register(
 
 // Each case of a statement has its function: a qubit's declaration and a bit's do the same.
 pub fn qubit_decl(
-    tree: &[u8],
-    index: &Index,
+    texts: Texts<'_>,
     scratch: &mut [u8],
     out: &mut [u8],
     left: usize,
     at: usize,
     sink: Sink,
 ) -> After
-    requires { Passable tree.now index.now scratch.old sink × IsOk (stmt (texts_of tree.now) left tree.now at) × (left ≤ 8) × (get_or tree.now at 0 ≡ 1) }
-    ensures { StmtPassed tree.now index.now left at sink scratch.old out.old result scratch.new out.new }
+    requires { Passable texts.tree.now scratch.old × IsOk (stmt (texts_of texts.tree.now) left texts.tree.now at) × (left ≤ 8) × (get_or texts.tree.now at 0 ≡ 1) }
+    ensures { StmtPassed texts.entry.tree.now left at sink scratch.old out.old result scratch.new out.new }
 {
-    register(tree, index, scratch, out, left, at, sink)
+    register(texts, scratch, out, left, at, sink)
 }
 
 pub fn bit_decl(
-    tree: &[u8],
-    index: &Index,
+    texts: Texts<'_>,
     scratch: &mut [u8],
     out: &mut [u8],
     left: usize,
     at: usize,
     sink: Sink,
 ) -> After
-    requires { Passable tree.now index.now scratch.old sink × IsOk (stmt (texts_of tree.now) left tree.now at) × (left ≤ 8) × (get_or tree.now at 0 ≡ 2) }
-    ensures { StmtPassed tree.now index.now left at sink scratch.old out.old result scratch.new out.new }
+    requires { Passable texts.tree.now scratch.old × IsOk (stmt (texts_of texts.tree.now) left texts.tree.now at) × (left ≤ 8) × (get_or texts.tree.now at 0 ≡ 2) }
+    ensures { StmtPassed texts.entry.tree.now left at sink scratch.old out.old result scratch.new out.new }
 {
-    register(tree, index, scratch, out, left, at, sink)
+    register(texts, scratch, out, left, at, sink)
 }
 
 // The initializer of x behind its byte, in the scopes after the declaration.
 #[tactic(auto, using(crate::proofs::Classical::initializers))]
 fn check_init(
-    tree: &[u8],
-    index: &Index,
+    texts: Texts<'_>,
     scratch: &[u8],
     out: &mut [u8],
     depth: usize,
@@ -115,15 +109,14 @@ fn check_init(
     ty: ClassicalType,
     sink: Sink,
 ) -> Sink
-    requires { Checkable tree.now index.now scratch.now depth sink × (x < length (texts_of tree.now)) × IsOk (option (held (texts_of tree.now)) tree.now at) }
-    ensures { Emitted (texts_of tree.now) (init_says (scopes_of scratch.now depth) (functions_of scratch.now) ty x (init_at tree.now at)) sink out.old result out.new }
+    requires { Checkable scratch.now depth × (x < length (texts_of texts.tree.now)) × IsOk (option (held (texts_of texts.tree.now)) texts.tree.now at) }
+    ensures { Emitted (texts_of texts.entry.tree.now) (init_says (scopes_of scratch.now depth) (functions_of scratch.now) ty x (init_at texts.entry.tree.now at)) sink out.old result out.new }
 {
-    if tree[at] == 0 {
+    if texts.tree[at] == 0 {
         return sink;
     }
     let sema = SemaContext {
-        tree,
-        index,
+        texts,
         scratch,
         depth,
     };
@@ -132,14 +125,13 @@ fn check_init(
         return t.sink;
     };
     let message = Message::CannotInitialize(ty, x, actual);
-    check_type(tree, index, out, ty, actual, message, t.next, t.sink)
+    check_type(texts, out, ty, actual, message, t.next, t.sink)
 }
 
 // What is said of the classical declaration d at `at` after its name: of its qualifier and of its initializer.
 #[tactic(auto, using(crate::proofs::Classical::classical))]
 fn check_classical(
-    tree: &[u8],
-    index: &Index,
+    texts: Texts<'_>,
     scratch: &[u8],
     out: &mut [u8],
     left: usize,
@@ -147,33 +139,32 @@ fn check_classical(
     d: Declaration,
     sink: Sink,
 ) -> Sink
-    requires { Checkable tree.now index.now scratch.now (9 - left) sink × (d.name < length (texts_of tree.now)) × IsOk (stmt (texts_of tree.now) left tree.now at) × (left ≤ 8) × (get_or tree.now at 0 ≡ 3) }
-    ensures { Emitted (texts_of tree.now) (classical_rest (scopes_of scratch.now (9 - left)) (functions_of scratch.now) (value_or none (option qualifier tree.now (at + 1))) (type_of (get_or tree.now (next_of (option qualifier tree.now (at + 1))) 0)) d.name (init_at tree.now (next_of (option qualifier tree.now (at + 1)) + 3)) d.symbol.decl_span) sink out.old result out.new }
+    requires { Checkable scratch.now (9 - left) × (d.name < length (texts_of texts.tree.now)) × IsOk (stmt (texts_of texts.tree.now) left texts.tree.now at) × (left ≤ 8) × (get_or texts.tree.now at 0 ≡ 3) }
+    ensures { Emitted (texts_of texts.entry.tree.now) (classical_rest (scopes_of scratch.now (9 - left)) (functions_of scratch.now) (value_or none (option qualifier texts.entry.tree.now (at + 1))) (type_of (get_or texts.entry.tree.now (next_of (option qualifier texts.entry.tree.now (at + 1))) 0)) d.name (init_at texts.entry.tree.now (next_of (option qualifier texts.entry.tree.now (at + 1)) + 3)) d.symbol.decl_span) sink out.old result out.new }
 {
-    let q = qualifier_at(tree, at + 1);
-    let k = skip_qualifier(tree, at + 1);
-    let init = tree[k + 3] != 0;
-    let s = check_qualifier(tree, index, out, q, init, d.name, d.symbol.decl_span, sink);
-    let ty = type_at(tree, k);
-    check_init(tree, index, scratch, out, 9 - left, k + 3, d.name, ty, s)
+    let q = qualifier_at(texts.tree, at + 1);
+    let k = skip_qualifier(texts.tree, at + 1);
+    let init = texts.tree[k + 3] != 0;
+    let s = check_qualifier(texts, out, q, init, d.name, d.symbol.decl_span, sink);
+    let ty = type_at(texts.tree, k);
+    check_init(texts, scratch, out, 9 - left, k + 3, d.name, ty, s)
 }
 
 // The declaration of a classical variable: its name, its qualifier, its initializer.
 pub fn classical_decl(
-    tree: &[u8],
-    index: &Index,
+    texts: Texts<'_>,
     scratch: &mut [u8],
     out: &mut [u8],
     left: usize,
     at: usize,
     sink: Sink,
 ) -> After
-    requires { Passable tree.now index.now scratch.old sink × IsOk (stmt (texts_of tree.now) left tree.now at) × (left ≤ 8) × (get_or tree.now at 0 ≡ 3) }
-    ensures { StmtPassed tree.now index.now left at sink scratch.old out.old result scratch.new out.new }
+    requires { Passable texts.tree.now scratch.old × IsOk (stmt (texts_of texts.tree.now) left texts.tree.now at) × (left ≤ 8) × (get_or texts.tree.now at 0 ≡ 3) }
+    ensures { StmtPassed texts.entry.tree.now left at sink scratch.old out.old result scratch.new out.new }
 {
-    let d = scopes::declaration_at(tree, at, left);
-    let s = declare(tree, index, scratch, out, 9 - left, d, sink);
-    let r = check_classical(tree, index, scratch, out, left, at, d, s);
+    let d = scopes::declaration_at(texts.tree, at, left);
+    let s = declare(texts, scratch, out, 9 - left, d, sink);
+    let r = check_classical(texts, scratch, out, left, at, d, s);
     After {
         next: d.end,
         sink: r,
@@ -183,57 +174,53 @@ pub fn classical_decl(
 // The target of an assignment.
 #[tactic(auto, unfolding(crate::specs::Says::target_by))]
 fn check_target(
-    tree: &[u8],
-    index: &Index,
+    texts: Texts<'_>,
     scratch: &[u8],
     out: &mut [u8],
     depth: usize,
     a: Assignment,
 ) -> Sink
-    requires { Valued tree.now index.now a.name a.value × (65536 ≤ length scratch.now) × (depth ≤ 9) }
-    ensures { Emitted (texts_of tree.now) (target_by (get (scopes_of scratch.now depth) a.name) a.name a.op (spanned (span_at tree.now (a.value.next - 8))) a.span (typed_of a.value.typed)) a.value.sink out.old result out.new }
+    requires { Valued texts.tree.now a.name a.value × (65536 ≤ length scratch.now) × (depth ≤ 9) }
+    ensures { Emitted (texts_of texts.entry.tree.now) (target_by (get (scopes_of scratch.now depth) a.name) a.name a.op (spanned (span_at texts.entry.tree.now (a.value.next - 8))) a.span (typed_of a.value.typed)) a.value.sink out.old result out.new }
 {
     let Some(symbol) = tables::get(scratch, depth, a.name) else {
         return report_error(
-            tree,
-            index,
+            texts,
             out,
             Message::NotDeclared(a.name),
             a.span,
             a.value.sink,
         );
     };
-    check_kind(tree, index, out, a, symbol.kind)
+    check_kind(texts, out, a, symbol.kind)
 }
 
 // The value, and then the target. The scratch stays as it is.
 #[tactic(auto, using(crate::proofs::Targets::assignments))]
 pub fn assignment(
-    tree: &[u8],
-    index: &Index,
+    texts: Texts<'_>,
     scratch: &[u8],
     out: &mut [u8],
     left: usize,
     at: usize,
     sink: Sink,
 ) -> After
-    requires { Passable tree.now index.now scratch.now sink × IsOk (stmt (texts_of tree.now) left tree.now at) × (left ≤ 8) × (get_or tree.now at 0 ≡ 4) }
-    ensures { StmtPassed tree.now index.now left at sink scratch.now out.old result scratch.now out.new }
+    requires { Passable texts.tree.now scratch.now × IsOk (stmt (texts_of texts.tree.now) left texts.tree.now at) × (left ≤ 8) × (get_or texts.tree.now at 0 ≡ 4) }
+    ensures { StmtPassed texts.entry.tree.now left at sink scratch.now out.old result scratch.now out.new }
 {
     let sema = SemaContext {
-        tree,
-        index,
+        texts,
         scratch,
         depth: 9 - left,
     };
     let value = typing::check_expr(sema, out, at + 4, 32, sink);
     let a = Assignment {
-        name: u16_at(tree, at + 1),
-        op: assign_op_at(tree, at + 3),
+        name: u16_at(texts.tree, at + 1),
+        op: assign_op_at(texts.tree, at + 3),
         value,
-        span: span_at(tree, value.next),
+        span: span_at(texts.tree, value.next),
     };
-    let s = check_target(tree, index, scratch, out, 9 - left, a);
+    let s = check_target(texts, scratch, out, 9 - left, a);
     After {
         next: value.next + 8,
         sink: s,
@@ -243,21 +230,19 @@ pub fn assignment(
 // The function f, whose parameters stand at `at`; of two of one name the first stays.
 #[tactic(auto, using(crate::proofs::Functions::parameters))]
 fn define(
-    tree: &[u8],
-    index: &Index,
+    texts: Texts<'_>,
     scratch: &mut [u8],
     out: &mut [u8],
     at: usize,
     f: Function,
     sink: Sink,
 ) -> Sink
-    requires { TextsAt tree.now index.now × (65536 ≤ length scratch.old) × SinkFits sink × FewParams (functions_of scratch.old) × (f.name < length (texts_of tree.now)) × IsOk (vec (param (texts_of tree.now)) tree.now at) }
-    ensures { Defined tree.now at f sink scratch.old out.old result scratch.new out.new }
+    requires { (65536 ≤ length scratch.old) × FewParams (functions_of scratch.old) × (f.name < length (texts_of texts.tree.now)) × IsOk (vec (param (texts_of texts.tree.now)) texts.tree.now at) }
+    ensures { Defined texts.entry.tree.now at f sink scratch.old out.old result scratch.new out.new }
 {
     if let Some(prev) = tables::function(scratch, f.name) {
         return report_with_note(
-            tree,
-            index,
+            texts,
             out,
             Message::FunctionAlreadyDefined(f.name),
             f.span,
@@ -266,15 +251,22 @@ fn define(
             sink,
         );
     }
-    let count = usize::from(tree[at]);
-    tables::define_function(scratch, tree, f.name, at + 1, count, f.return_type, f.span);
+    let count = usize::from(texts.tree[at]);
+    tables::define_function(
+        scratch,
+        texts.tree,
+        f.name,
+        at + 1,
+        count,
+        f.return_type,
+        f.span,
+    );
     sink
 }
 
 // The body of f in a scope with its parameters, which stand at `at`.
 fn check_body(
-    tree: &[u8],
-    index: &Index,
+    texts: Texts<'_>,
     scratch: &mut [u8],
     out: &mut [u8],
     depth: usize,
@@ -282,13 +274,12 @@ fn check_body(
     f: Function,
     sink: Sink,
 ) -> Sink
-    requires { Checkable tree.now index.now scratch.old depth sink × (depth < 9) × (f.name < length (texts_of tree.now)) × IsOk (vec (param (texts_of tree.now)) tree.now at) × IsOk (held (texts_of tree.now) tree.now f.body) }
-    ensures { BodyChecked tree.now depth at f sink scratch.old out.old result scratch.new out.new }
+    requires { Checkable scratch.old depth × (depth < 9) × (f.name < length (texts_of texts.tree.now)) × IsOk (vec (param (texts_of texts.tree.now)) texts.tree.now at) × IsOk (held (texts_of texts.tree.now) texts.tree.now f.body) }
+    ensures { BodyChecked texts.entry.tree.now depth at f sink scratch.old out.old result scratch.new out.new }
 {
-    scopes::enter_function(tree, scratch, depth, at, f.span);
+    scopes::enter_function(texts.tree, scratch, depth, at, f.span);
     let sema = SemaContext {
-        tree,
-        index,
+        texts,
         scratch,
         depth: depth + 1,
     };
@@ -297,35 +288,25 @@ fn check_body(
         return t.sink;
     };
     let message = Message::FunctionReturns(f.name, f.return_type, actual);
-    check_type(
-        tree,
-        index,
-        out,
-        f.return_type,
-        actual,
-        message,
-        t.next,
-        t.sink,
-    )
+    check_type(texts, out, f.return_type, actual, message, t.next, t.sink)
 }
 
 // The function is known in its own body. Its scope is left by counting one less.
 #[tactic(auto, using(crate::proofs::Functions::function_defs))]
 pub fn function_def(
-    tree: &[u8],
-    index: &Index,
+    texts: Texts<'_>,
     scratch: &mut [u8],
     out: &mut [u8],
     left: usize,
     at: usize,
     sink: Sink,
 ) -> After
-    requires { Passable tree.now index.now scratch.old sink × IsOk (stmt (texts_of tree.now) left tree.now at) × (left ≤ 8) × (get_or tree.now at 0 ≡ 7) }
-    ensures { StmtPassed tree.now index.now left at sink scratch.old out.old result scratch.new out.new }
+    requires { Passable texts.tree.now scratch.old × IsOk (stmt (texts_of texts.tree.now) left texts.tree.now at) × (left ≤ 8) × (get_or texts.tree.now at 0 ≡ 7) }
+    ensures { StmtPassed texts.entry.tree.now left at sink scratch.old out.old result scratch.new out.new }
 {
-    let f = function_at(tree, at, left);
-    let s = define(tree, index, scratch, out, at + 3, f, sink);
-    let r = check_body(tree, index, scratch, out, 9 - left, at + 3, f, s);
+    let f = function_at(texts.tree, at, left);
+    let s = define(texts, scratch, out, at + 3, f, sink);
+    let r = check_body(texts, scratch, out, 9 - left, at + 3, f, s);
     After {
         next: f.end,
         sink: r,

@@ -5,9 +5,8 @@ ghost use Rattle.types.specs.Types.{assignable_to, numeric};
 ghost use Rattle.sema.specs.Messages.{error, compound_numeric};
 ghost use Rattle.sema.specs.Operands.{unless};
 ghost use Rattle.sema.specs.Stmts.{is_assign, assign_says, target_says};
-ghost use Rattle.context.specs.Sink.{SinkFits};
 ghost use Rattle.context.specs.Values.{kind_of, typed_of, found_of};
-ghost use Rattle.context.specs.View.{TextsAt, span_at};
+ghost use Rattle.context.specs.View.{span_at};
 ghost use Rattle.lines.specs.Values.{error_of, error_with_note_of, diagnostic_of, name_in, name_in_note, Below};
 ghost use Rattle.promises.specs.Emitted.{Emitted};
 ghost use Rattle.scopes.specs.Scopes.{qualified_of};
@@ -17,28 +16,26 @@ ghost use Rattle.declarations.specs.Checked.{Valued};
 use crate::parts::Assignment;
 use accepted::numbers::span_at;
 use ast::{AssignOp, ClassicalQualifier, ClassicalType};
-use context::{Index, Sink, Symbol, SymbolKind};
+use context::{Sink, Symbol, SymbolKind, Texts};
 use lines::{Message, Note, error, error_with_note};
 use span::Span;
 
 // An error, and an error with a note.
 pub fn report_error(
-    tree: &[u8],
-    index: &Index,
+    texts: Texts<'_>,
     out: &mut [u8],
     message: Message,
     span: Span,
     sink: Sink,
 ) -> Sink
-    requires { TextsAt tree.now index.now × Below (length (texts_of tree.now)) (name_in message) × SinkFits sink }
-    ensures { Emitted (texts_of tree.now) (diagnostic_of (error_of message span) ∷ []) sink out.old result out.new }
+    requires { Below (length (texts_of texts.tree.now)) (name_in message) }
+    ensures { Emitted (texts_of texts.entry.tree.now) (diagnostic_of (error_of message span) ∷ []) sink out.old result out.new }
 {
-    lines::report(out, sink, tree, index, error(message, span))
+    lines::report(out, sink, texts, error(message, span))
 }
 
 pub fn report_with_note(
-    tree: &[u8],
-    index: &Index,
+    texts: Texts<'_>,
     out: &mut [u8],
     message: Message,
     span: Span,
@@ -46,38 +43,30 @@ pub fn report_with_note(
     at: Span,
     sink: Sink,
 ) -> Sink
-    requires { TextsAt tree.now index.now × Below (length (texts_of tree.now)) (name_in message) × Below (length (texts_of tree.now)) (name_in_note note) × SinkFits sink }
-    ensures { Emitted (texts_of tree.now) (diagnostic_of (error_with_note_of message span note at) ∷ []) sink out.old result out.new }
+    requires { Below (length (texts_of texts.tree.now)) (name_in message) × Below (length (texts_of texts.tree.now)) (name_in_note note) }
+    ensures { Emitted (texts_of texts.entry.tree.now) (diagnostic_of (error_with_note_of message span note at) ∷ []) sink out.old result out.new }
 {
-    lines::report(
-        out,
-        sink,
-        tree,
-        index,
-        error_with_note(message, span, note, at),
-    )
+    lines::report(out, sink, texts, error_with_note(message, span, note, at))
 }
 
 // The first declaration of a scope stays: `found` is what the scope had.
 #[tactic(auto, using(crate::proofs::Sayings::silent), unfolding(crate::specs::Says::declared_says))]
 pub fn report_declared(
-    tree: &[u8],
-    index: &Index,
+    texts: Texts<'_>,
     out: &mut [u8],
     found: Option<Symbol>,
     x: usize,
     span: Span,
     sink: Sink,
 ) -> Sink
-    requires { TextsAt tree.now index.now × (x < length (texts_of tree.now)) × SinkFits sink }
-    ensures { Emitted (texts_of tree.now) (declared_says (found_of found) x span) sink out.old result out.new }
+    requires { x < length (texts_of texts.tree.now) }
+    ensures { Emitted (texts_of texts.entry.tree.now) (declared_says (found_of found) x span) sink out.old result out.new }
 {
     let Some(prev) = found else {
         return sink;
     };
     report_with_note(
-        tree,
-        index,
+        texts,
         out,
         Message::AlreadyDeclared(x),
         span,
@@ -90,8 +79,7 @@ pub fn report_declared(
 // The message at the span of the expression that ends at `end`, where the expected type does not take the actual one.
 #[tactic(auto, using(crate::proofs::Sayings::silent))]
 pub fn check_type(
-    tree: &[u8],
-    index: &Index,
+    texts: Texts<'_>,
     out: &mut [u8],
     expected: ClassicalType,
     actual: ClassicalType,
@@ -99,21 +87,20 @@ pub fn check_type(
     end: usize,
     sink: Sink,
 ) -> Sink
-    requires { TextsAt tree.now index.now × (8 ≤ end) × (end ≤ length tree.now) × Below (length (texts_of tree.now)) (name_in message) × SinkFits sink }
-    ensures { Emitted (texts_of tree.now) (unless (assignable_to expected actual) (diagnostic_of (error_of message (span_at tree.now (end - 8))))) sink out.old result out.new }
+    requires { (8 ≤ end) × (end ≤ length texts.tree.now) × Below (length (texts_of texts.tree.now)) (name_in message) }
+    ensures { Emitted (texts_of texts.entry.tree.now) (unless (assignable_to expected actual) (diagnostic_of (error_of message (span_at texts.entry.tree.now (end - 8))))) sink out.old result out.new }
 {
     if types::assignable(expected, actual) {
         return sink;
     }
-    let span = span_at(tree, end - 8);
-    report_error(tree, index, out, message, span, sink)
+    let span = span_at(texts.tree, end - 8);
+    report_error(texts, out, message, span, sink)
 }
 
 // A compound assignment takes numeric operands.
 #[tactic(auto, using(crate::proofs::Sayings::silent))]
 fn check_compound(
-    tree: &[u8],
-    index: &Index,
+    texts: Texts<'_>,
     out: &mut [u8],
     op: AssignOp,
     expected: ClassicalType,
@@ -121,34 +108,26 @@ fn check_compound(
     span: Span,
     sink: Sink,
 ) -> Sink
-    requires { TextsAt tree.now index.now × SinkFits sink }
-    ensures { Emitted (texts_of tree.now) (unless (is_assign op || (numeric expected && numeric actual)) (error compound_numeric span)) sink out.old result out.new }
+    ensures { Emitted (texts_of texts.entry.tree.now) (unless (is_assign op || (numeric expected && numeric actual)) (error compound_numeric span)) sink out.old result out.new }
 {
     if op == AssignOp::Assign || types::is_numeric(expected) && types::is_numeric(actual) {
         return sink;
     }
-    report_error(tree, index, out, Message::CompoundNumeric, span, sink)
+    report_error(texts, out, Message::CompoundNumeric, span, sink)
 }
 
 // The value of an assignment against the type of its target.
 #[tactic(auto, using(crate::proofs::Sayings::silent), unfolding(sema::specs::Stmts::assign_says))]
-fn check_assign(
-    tree: &[u8],
-    index: &Index,
-    out: &mut [u8],
-    a: Assignment,
-    expected: ClassicalType,
-) -> Sink
-    requires { Valued tree.now index.now a.name a.value }
-    ensures { Emitted (texts_of tree.now) (assign_says a.name a.op (spanned (span_at tree.now (a.value.next - 8))) a.span expected (typed_of a.value.typed)) a.value.sink out.old result out.new }
+fn check_assign(texts: Texts<'_>, out: &mut [u8], a: Assignment, expected: ClassicalType) -> Sink
+    requires { Valued texts.tree.now a.name a.value }
+    ensures { Emitted (texts_of texts.entry.tree.now) (assign_says a.name a.op (spanned (span_at texts.entry.tree.now (a.value.next - 8))) a.span expected (typed_of a.value.typed)) a.value.sink out.old result out.new }
 {
     let Some(actual) = a.value.typed else {
         return a.value.sink;
     };
     let message = Message::CannotAssign(actual, expected, a.name);
     let s = check_type(
-        tree,
-        index,
+        texts,
         out,
         expected,
         actual,
@@ -156,35 +135,28 @@ fn check_assign(
         a.value.next,
         a.value.sink,
     );
-    check_compound(tree, index, out, a.op, expected, actual, a.span, s)
+    check_compound(texts, out, a.op, expected, actual, a.span, s)
 }
 
 // The target of an assignment is of this kind.
 #[tactic(auto, unfolding(sema::specs::Stmts::target_says))]
-pub fn check_kind(
-    tree: &[u8],
-    index: &Index,
-    out: &mut [u8],
-    a: Assignment,
-    kind: SymbolKind,
-) -> Sink
-    requires { Valued tree.now index.now a.name a.value }
-    ensures { Emitted (texts_of tree.now) (target_says a.name a.op (spanned (span_at tree.now (a.value.next - 8))) a.span (typed_of a.value.typed) (kind_of kind)) a.value.sink out.old result out.new }
+pub fn check_kind(texts: Texts<'_>, out: &mut [u8], a: Assignment, kind: SymbolKind) -> Sink
+    requires { Valued texts.tree.now a.name a.value }
+    ensures { Emitted (texts_of texts.entry.tree.now) (target_says a.name a.op (spanned (span_at texts.entry.tree.now (a.value.next - 8))) a.span (typed_of a.value.typed) (kind_of kind)) a.value.sink out.old result out.new }
 {
     let message = match kind {
-        SymbolKind::Classical(expected) => return check_assign(tree, index, out, a, expected),
+        SymbolKind::Classical(expected) => return check_assign(texts, out, a, expected),
         SymbolKind::Const(_) => Message::AssignToConst(a.name),
         SymbolKind::Qubit | SymbolKind::Bit | SymbolKind::GateParam | SymbolKind::GateQubit =>
             Message::NotAssignable(a.name),
     };
-    report_error(tree, index, out, message, a.span, a.value.sink)
+    report_error(texts, out, message, a.span, a.value.sink)
 }
 
 // The const and input checks; `init` says whether there is an initializer.
 #[tactic(auto, using(crate::proofs::Sayings::silent), unfolding(crate::specs::Says::qualifier_says))]
 pub fn check_qualifier(
-    tree: &[u8],
-    index: &Index,
+    texts: Texts<'_>,
     out: &mut [u8],
     q: Option<ClassicalQualifier>,
     init: bool,
@@ -192,13 +164,13 @@ pub fn check_qualifier(
     span: Span,
     sink: Sink,
 ) -> Sink
-    requires { TextsAt tree.now index.now × (x < length (texts_of tree.now)) × SinkFits sink }
-    ensures { Emitted (texts_of tree.now) (qualifier_says (qualified_of q) init x span) sink out.old result out.new }
+    requires { x < length (texts_of texts.tree.now) }
+    ensures { Emitted (texts_of texts.entry.tree.now) (qualifier_says (qualified_of q) init x span) sink out.old result out.new }
 {
     let message = match (q, init) {
         (Some(ClassicalQualifier::Const), false) => Message::ConstWithoutInit(x),
         (Some(ClassicalQualifier::Input), true) => Message::InputWithInit(x),
         _ => return sink,
     };
-    report_error(tree, index, out, message, span, sink)
+    report_error(texts, out, message, span, sink)
 }

@@ -20,7 +20,10 @@ use Rattle.context.specs.View.{number_at, text_place, TextAt, TextsAt}
 use Rattle.accepted.specs.Parts.{value_or, next_is, value_is, Goes, start, field, known, past-here, checked, past-check, past_unit, ends}
 use Rattle.accepted.specs.Fields.{byte_is, number_in, number_is}
 use Rattle.accepted.specs.Files.{file-texts, texts-few, texts_are}
-use Rattle.context.specs.Kept.{text_moved}
+
+-- a text stands where other places have the same place for it
+text_moved : (tree before after : List ℕ) (x : ℕ) → TextAt tree before x → text_place after x ≡ text_place before x → TextAt tree after x
+text_moved tree before after x t e = record { inside = rw e t.inside; same = rw e t.same; short = rw e t.short }
 
 within_is : {A : Type 0} (b : Bool) (size : ℕ) (x : Ans A) → IsOk (within b size x) → (b ≡ true) × (within b size x ≡ x)
 unfolding within IsOk
@@ -168,7 +171,7 @@ module _ (s index : List ℕ) (n i at : ℕ) (p : Placing s index n i at) where
       each = each_placed;
     }
 
-  pub placing_end : n ≤ i → i ≤ length index → (rest : List ℕ) → length (index ++ rest) ≡ 768 → (at ≡ next_of (texts s 0)) × TextsAt s (index ++ rest)
+  pub placing_end : n ≤ i → i ≤ length index → (rest : List ℕ) → length (index ++ rest) ≡ 256 → (at ≡ next_of (texts s 0)) × TextsAt s (index ++ rest)
   unfolding more_texts done
   placing_end l k rest e =
       let z : n - i ≡ 0 = omega arith in

@@ -1,4 +1,4 @@
-// The index: the places of the texts of an accepted tree in its first 256 numbers. The others are for the keys.
+// The places of the texts of an accepted tree.
 #![tactic(auto)]
 
 ghost use Rattle.std.specs.Prelude.{◌≡◌, length};
@@ -10,13 +10,13 @@ ghost use Rattle.context.specs.View.{TextsAt};
 use accepted::numbers::u16_at;
 
 // The places of the texts' length bytes, and the place past the texts.
-pub fn place_texts(tree: &[u8], index: &mut [u64]) -> usize
-    requires { IsOk (decode tree.now) × (length index.old ≡ 768) }
-    ensures { (result ≡ next_of (texts tree.now 0)) × TextsAt tree.now index.new }
+pub fn place_texts(tree: &[u8], places: &mut [u64]) -> usize
+    requires { IsOk (decode tree.now) × (length places.old ≡ 256) }
+    ensures { (result ≡ next_of (texts tree.now 0)) × TextsAt tree.now places.new }
 {
     let n = u16_at(tree, 0);
     let mut at = 2;
-    for place in &mut index[..n] {
+    for place in &mut places[..n] {
         // std has no From<usize> for u64.
         *place = at as u64;
         at += 1 + usize::from(tree[at]);

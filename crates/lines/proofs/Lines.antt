@@ -10,7 +10,7 @@ use Rattle.listing.specs.Listing.{ended, spaced, span_line, letter, note_lines, 
 use Rattle.context.specs.declared.GateOperand.{GateOperand}
 use Rattle.context.specs.declared.Sink.{Sink}
 use Rattle.context.specs.Values.{operand_of}
-use Rattle.context.specs.Sink.{written_of, store, bytes_of, SinkFits}
+use Rattle.context.specs.Sink.{written_of, store, bytes_of}
 use Rattle.lines.specs.declared.Severity.{Severity}
 use Rattle.lines.specs.declared.Message.{Message}
 use Rattle.lines.specs.declared.Note.{Note}
@@ -78,24 +78,19 @@ two-lines t d =
 
 -- `report` stores both and counts
 module _ (s : Sink) {b : ℕ} where
-  stored : {o o' : List ℕ} (v : Severity) (xs : List ℕ) {r : Sink} → r ≡ counted_of s v b → Wrote o s.n o' b xs → written_of r o' ≡ store xs (severity_of v) (written_of s o)
-  stored Severity.Error xs e w = rw (e, w.holds, w.after, add-one s.errors)
-  stored Severity.Warning xs e w = rw (e, w.holds, w.after, add-one s.warnings)
+  stored : {o o' : List ℕ} (v : Severity) (xs : List ℕ) (r : Sink) → ((o : List ℕ) → written_of r o ≡ counted_of s v b o) → Wrote o s.n o' b xs → written_of r o' ≡ store xs (severity_of v) (written_of s o)
+  stored {o' = o'} Severity.Error xs r e w = rw (e o', w.holds, w.after, add-one s.errors)
+  stored {o' = o'} Severity.Warning xs r e w = rw (e o', w.holds, w.after, add-one s.warnings)
 
-  fitting : SinkFits s → s.errors + s.warnings ≤ 256 → (v : Severity) {r : Sink} → r ≡ counted_of s v b → b ≤ s.n + 1024 → SinkFits r
-  fitting fits few Severity.Error e h = rw e (record { few = omega arith; short = omega (arith, fits.short) })
-  fitting fits few Severity.Warning e h = rw e (record { few = omega arith; short = omega (arith, fits.short) })
-
-  pub reported : (t : List Text) (d : Diagnostic) {o o₁ o' : List ℕ} {a : ℕ} {r : Sink} → SinkFits s → s.errors + s.warnings ≤ 256 → Said o s.n o₁ a (ended (diagnostic_line t (diagnostic_of d) ∷ [])) 512 → Said o₁ a o' b (ended (note_lines t (secondary_of d.secondary))) 512 → r ≡ counted_of s d.severity b → Reported t d s o r o'
-  reported t d {o} fits few u w e =
+  pub reported : (t : List Text) (d : Diagnostic) {o o₁ o' : List ℕ} {a : ℕ} {r : Sink} → s.errors + s.warnings ≤ 256 → Said o s.n o₁ a (ended (diagnostic_line t (diagnostic_of d) ∷ [])) 512 → Said o₁ a o' b (ended (note_lines t (secondary_of d.secondary))) 512 → ((o : List ℕ) → written_of r o ≡ counted_of s d.severity b o) → Reported t d s o r o'
+  reported t d {o} {r = r} few u w e =
       let v = rw (← two-lines t d) at (wrote_then u.wrote w.wrote) in
       record {
-        emits = stored d.severity (bytes_of t (diagnostic_of d)) e v ∙ sym (one-within t (diagnostic_of d) (written_of s o) few);
-        fits = fitting fits few d.severity e (omega (arith, u.within, w.within));
+        emits = stored d.severity (bytes_of t (diagnostic_of d)) r e v ∙ sym (one-within t (diagnostic_of d) (written_of s o) few);
       }
 
-pub report_past : (t : List Text) (d : Diagnostic) (s : Sink) (o : List ℕ) → SinkFits s → 256 < s.errors + s.warnings → Reported t d s o s o
-report_past t d s o f h = record { emits = sym (one-past t (diagnostic_of d) (written_of s o) h); fits = f }
+pub report_past : (t : List Text) (d : Diagnostic) (s : Sink) (o : List ℕ) → 256 < s.errors + s.warnings → Reported t d s o s o
+report_past t d s o h = record { emits = sym (one-past t (diagnostic_of d) (written_of s o) h) }
 
 -- two numbers and what stands around them
 pub numbers-said : (x y : ℕ) {v w before after o o₁ o₂ o₃ o₄ o' : List ℕ} {n k₁ k₂ k₃ k₄ r : ℕ} → Shown v (decimal x) 20 → Shown w (decimal y) 20 → length before + length after ≤ 32 → Wrote o n o₁ k₁ before → Wrote o₁ k₁ o₂ k₂ v → Wrote o₂ k₂ o₃ k₃ (text " ") → Wrote o₃ k₃ o₄ k₄ w → Wrote o₄ k₄ o' r after → Said o n o' r (before ++ (decimal x ++ (32 ∷ (decimal y ++ after)))) 96

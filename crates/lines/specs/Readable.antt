@@ -2,6 +2,6 @@
 use Rattle.std.specs.Prelude.{ℕ, ◌<◌, List}
 use Rattle.context.specs.View.{TextAt}
 
-pub record Readable (tree index : List ℕ) (x : ℕ) : Type 0 where
-  pub inside : x < 768
-  pub text_at : TextAt tree index x
+pub record Readable (tree places : List ℕ) (x : ℕ) : Type 0 where
+  pub inside : x < 256
+  pub text_at : TextAt tree places x

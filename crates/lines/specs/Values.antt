@@ -2,7 +2,7 @@
 use Rattle.std.specs.Prelude.{ℕ, ◌+◌, ◌<◌, ◌≡◌, List}
 use Rattle.ast.specs.Tree.{Text}
 use Rattle.context.specs.declared.Sink.{Sink}
-use Rattle.context.specs.Sink.{written_of, emit_one, SinkFits}
+use Rattle.context.specs.Sink.{Written, written_of, emit_one}
 use Rattle.std.proofs.Math.Option.{Option, none, some}
 use Rattle.span.specs.declared.Span.{Span}
 use Rattle.sema.specs.Messages
@@ -171,11 +171,10 @@ pub record Fits (n : ℕ) (d : Diagnostic) : Type 0 where
   pub noted : NoteBelow n d.secondary
 
 -- one diagnostic more, and the listing's length
-abbrev pub counted_of : Sink → Severity → ℕ → Sink
-counted_of s Severity.Error n = record { n = n; errors = s.errors + 1; warnings = s.warnings }
-counted_of s Severity.Warning n = record { n = n; errors = s.errors; warnings = s.warnings + 1 }
+abbrev pub counted_of : Sink → Severity → ℕ → List ℕ → Written
+counted_of s Severity.Error n o = record { out = o; n = n; errors = s.errors + 1; warnings = s.warnings }
+counted_of s Severity.Warning n o = record { out = o; n = n; errors = s.errors; warnings = s.warnings + 1 }
 
 -- what `report` leaves
 pub record Reported (t : List Text) (d : Diagnostic) (s : Sink) (o : List ℕ) (r : Sink) (o' : List ℕ) : Type 0 where
   pub emits : written_of r o' ≡ emit_one t (diagnostic_of d) (written_of s o)
-  pub fits : SinkFits r

@@ -5,20 +5,20 @@ mod messages;
 pub mod pieces;
 mod words;
 
-ghost use Rattle.std.specs.Prelude.{◌≡◌, ◌≤◌, ◌<◌, ◌+◌, ◌++◌, ◌∷◌, [], length};
+ghost use Rattle.std.specs.Prelude.{◌≡◌, ℕ, List, ◌≤◌, ◌<◌, ◌+◌, ◌++◌, ◌∷◌, [], length};
 ghost use Rattle.text.specs.Text.{text};
 ghost use Rattle.text.specs.Decimal.{decimal};
 ghost use Rattle.tree.specs.Decode.{texts_of};
+ghost use Rattle.context.specs.Sink.{written_of};
 ghost use Rattle.listing.specs.Listing.{ended, spaced, letter, note_lines, diagnostic_line};
-ghost use Rattle.context.specs.Sink.{SinkFits};
-ghost use Rattle.context.specs.View.{TextsAt};
 ghost use Rattle.lines.specs.Values.{severity_of, diagnostic_of, secondary_of, name_in, Below, NoteBelow, Fits, counted_of, error_of, error_with_note_of, warning_of, Reported};
 ghost use Rattle.lines.specs.Stored.{Wrote, Said, Shown};
 ghost use Rattle.lines.specs.Texts.{head_text};
 
 use ast::ClassicalType;
-use context::{GateOperand, Index, Sink, SymbolKind};
-use pieces::{Texts, copy, numbers};
+use context::{GateOperand, Sink, SymbolKind, Texts};
+use messages::{store_message, store_note};
+use pieces::{copy, numbers};
 use span::Span;
 
 #[derive(Clone, Copy)]
@@ -170,35 +170,33 @@ fn head(out: &mut [u8], n: usize, letter: &[u8], span: Span) -> usize
     )
 }
 
-impl Texts<'_> {
-    // The message's line.
-    fn message_line(self, out: &mut [u8], n: usize, d: Diagnostic) -> usize
-        requires { (n < 1048576) × Below (length (texts_of self.tree.now)) (name_in d.message) }
-        ensures { Said out.old n out.new result (ended (diagnostic_line (texts_of self.entry.tree.now) (diagnostic_of d) ∷ [])) 512 }
-    {
-        let a = head(out, n, letter(d.severity), d.span);
-        let b = self.message(out, a, d.message);
-        copy(out, b, b"\n")
-    }
+// The message's line.
+fn message_line(texts: Texts<'_>, out: &mut [u8], n: usize, d: Diagnostic) -> usize
+    requires { (n < 1048576) × Below (length (texts_of texts.tree.now)) (name_in d.message) }
+    ensures { Said out.old n out.new result (ended (diagnostic_line (texts_of texts.entry.tree.now) (diagnostic_of d) ∷ [])) 512 }
+{
+    let a = head(out, n, letter(d.severity), d.span);
+    let b = store_message(texts, out, a, d.message);
+    copy(out, b, b"\n")
+}
 
-    // The note's line, where there is a note.
-    fn note_line(self, out: &mut [u8], n: usize, secondary: Option<(Note, Span)>) -> usize
-        requires { (n < 1048576) × NoteBelow (length (texts_of self.tree.now)) secondary }
-        ensures { Said out.old n out.new result (ended (note_lines (texts_of self.entry.tree.now) (secondary_of secondary))) 512 }
-    {
-        let Some((note, span)) = secondary else {
-            return n;
-        };
-        let a = head(out, n, b"N ", span);
-        let b = self.note(out, a, note);
-        copy(out, b, b"\n")
-    }
+// The note's line, where there is a note.
+fn note_line(texts: Texts<'_>, out: &mut [u8], n: usize, secondary: Option<(Note, Span)>) -> usize
+    requires { (n < 1048576) × NoteBelow (length (texts_of texts.tree.now)) secondary }
+    ensures { Said out.old n out.new result (ended (note_lines (texts_of texts.entry.tree.now) (secondary_of secondary))) 512 }
+{
+    let Some((note, span)) = secondary else {
+        return n;
+    };
+    let a = head(out, n, b"N ", span);
+    let b = store_note(texts, out, a, note);
+    copy(out, b, b"\n")
 }
 
 // One diagnostic more, and the listing's length.
 fn counted(sink: Sink, severity: Severity, n: usize) -> Sink
-    requires { (sink.errors + sink.warnings ≤ 256) × (n ≤ 1048576) }
-    ensures { result ≡ counted_of sink severity n }
+    requires { (sink.errors + sink.warnings ≤ 256) × (n ≤ sink.n + 1024) }
+    ensures { (o : List ℕ) → written_of result o ≡ counted_of sink severity n o }
 {
     // n is at most 1,048,576: TryFrom would add an error that no n gives.
     let n = n as u32;
@@ -206,28 +204,27 @@ fn counted(sink: Sink, severity: Severity, n: usize) -> Sink
         Severity::Error => Sink {
             n,
             errors: sink.errors + 1,
-            ..sink
+            warnings: sink.warnings,
         },
         Severity::Warning => Sink {
             n,
+            errors: sink.errors,
             warnings: sink.warnings + 1,
-            ..sink
         },
     }
 }
 
 // Writes a diagnostic behind what is written; one past the limit adds nothing. The walk over an accepted tree meets what is required.
-pub fn report(out: &mut [u8], sink: Sink, tree: &[u8], index: &Index, d: Diagnostic) -> Sink
-    requires { TextsAt tree.now index.now × Fits (length (texts_of tree.now)) d × SinkFits sink }
-    ensures { Reported (texts_of tree.now) d sink out.old result out.new }
+pub fn report(out: &mut [u8], sink: Sink, texts: Texts<'_>, d: Diagnostic) -> Sink
+    requires { Fits (length (texts_of texts.tree.now)) d }
+    ensures { Reported (texts_of texts.entry.tree.now) d sink out.old result out.new }
 {
     if 256 < sink.errors + sink.warnings {
         return sink;
     }
-    let texts = Texts { tree, index };
     // std has no From<u32> for usize.
-    let a = texts.message_line(out, sink.n as usize, d);
-    let b = texts.note_line(out, a, d.secondary);
+    let a = message_line(texts, out, sink.n as usize, d);
+    let b = note_line(texts, out, a, d.secondary);
     counted(sink, d.severity, b)
 }
 

@@ -4,13 +4,13 @@ ghost use Rattle.std.specs.List.{All};
 ghost use Rattle.text.specs.Decimal.{decimal};
 ghost use Rattle.tree.specs.Decode.{texts_of};
 ghost use Rattle.sema.specs.Messages.{name_at};
-ghost use Rattle.context.specs.View.{TextsAt};
 ghost use Rattle.lines.specs.Stored.{Wrote, Said, Shown};
 ghost use Rattle.lines.specs.Readable.{Readable};
+ghost use Rattle.lines.specs.Texts.{Named, value_text, value_room, joined, room};
 
 use super::{Expected, Place, words};
 use ast::ClassicalType;
-use context::{Index, SymbolKind};
+use context::{Places, SymbolKind, Texts};
 use itoa::Buffer;
 
 // A value in a text.
@@ -27,22 +27,14 @@ pub(crate) enum Value {
     Sum(u64, u64),
 }
 
-// The tree, and the index that says where its texts stand.
-#[derive(Clone, Copy)]
-pub(crate) struct Texts<'a> {
-    pub tree: &'a [u8],
-    pub index: &'a Index,
-    ghost placed: { TextsAt tree.now index.now },
-}
-
 // The text with a number, as a part of the tree.
 #[tactic(auto, unfolding(sema::specs::Messages::name_at))]
-pub fn name_of<'a>(tree: &'a [u8], index: &Index, x: usize) -> &'a [u8]
-    requires { Readable tree.now index.now x }
+pub fn name_of<'a>(tree: &'a [u8], places: &Places, x: usize) -> &'a [u8]
+    requires { Readable tree.now places.now x }
     ensures { Shown result.now (name_at (texts_of tree.now) x) 64 }
 {
     // A place of the tree: TryFrom would add an error that no place gives.
-    let at = index[x] as usize;
+    let at = places[x] as usize;
     let size = usize::from(tree[at]);
     &tree[at + 1..at + 1 + size]
 }
@@ -85,46 +77,40 @@ pub(crate) fn numbers(
     copy(out, d, after)
 }
 
-impl<'a> Texts<'a> {
-    ghost use Rattle.lines.specs.Texts.{Named, value_text, value_room, joined, room};
-
-    // The next piece of a text: a part of the tree or of the wording. The digits of a number stand in neither, and are lent.
-    fn piece<'b>(self, value: Value, digits: &'b mut Buffer) -> &'b [u8]
-    where
-        'a: 'b,
-        requires { Named (length (texts_of self.tree.now)) value }
-        ensures { Shown result.now (value_text (texts_of self.entry.tree.now) value) (value_room value) }
-    {
-        match value {
-            Value::Name(x) => name_of(self.tree, self.index, x),
-            Value::TypeName(ty) => words::type_name(ty),
-            Value::KindName(kind) => words::kind_name(kind),
-            Value::ExpectedName(expected) => words::expected_name(expected),
-            Value::PlaceName(place) => words::place_name(place),
-            Value::Number(v) => number(v, digits),
-            Value::Sum(a, b) => digits.format(u128::from(a) + u128::from(b)).as_bytes(),
-        }
+// The next piece of a text: a part of the tree or of the wording. The digits of a number stand in neither, and are lent.
+fn piece<'a: 'b, 'b>(texts: Texts<'a>, value: Value, digits: &'b mut Buffer) -> &'b [u8]
+    requires { Named (length (texts_of texts.tree.now)) value }
+    ensures { Shown result.now (value_text (texts_of texts.entry.tree.now) value) (value_room value) }
+{
+    match value {
+        Value::Name(x) => name_of(texts.tree, texts.places, x),
+        Value::TypeName(ty) => words::type_name(ty),
+        Value::KindName(kind) => words::kind_name(kind),
+        Value::ExpectedName(expected) => words::expected_name(expected),
+        Value::PlaceName(place) => words::place_name(place),
+        Value::Number(v) => number(v, digits),
+        Value::Sum(a, b) => digits.format(u128::from(a) + u128::from(b)).as_bytes(),
     }
+}
 
-    // Stores words and values in turn: words come first and last.
-    pub fn say(
-        self,
-        out: &mut [u8],
-        n: usize,
-        words: &'static [&'static [u8]],
-        values: &[Value],
-    ) -> usize
-        requires turns { length words.now ≡ length values.now + 1 }
-        requires few { n + room words.now values.now < 9223372036854775808 }
-        requires named { All (Named (length (texts_of self.tree.now))) values.now }
-        ensures { Said out.old n out.new result (joined (texts_of self.entry.tree.now) words.now values.now) (room words.now values.now) }
-    {
-        let mut digits = Buffer::new();
-        let mut at = n;
-        for (i, value) in values.iter().enumerate() {
-            at = copy(out, at, words[i]);
-            at = copy(out, at, self.piece(*value, &mut digits));
-        }
-        copy(out, at, words[values.len()])
+// Stores words and values in turn: words come first and last.
+pub(crate) fn say(
+    texts: Texts<'_>,
+    out: &mut [u8],
+    n: usize,
+    words: &'static [&'static [u8]],
+    values: &[Value],
+) -> usize
+    requires turns { length words.now ≡ length values.now + 1 }
+    requires few { n + room words.now values.now < 9223372036854775808 }
+    requires named { All (Named (length (texts_of texts.tree.now))) values.now }
+    ensures { Said out.old n out.new result (joined (texts_of texts.entry.tree.now) words.now values.now) (room words.now values.now) }
+{
+    let mut digits = Buffer::new();
+    let mut at = n;
+    for (i, value) in values.iter().enumerate() {
+        at = copy(out, at, words[i]);
+        at = copy(out, at, piece(texts, *value, &mut digits));
     }
+    copy(out, at, words[values.len()])
 }

@@ -11,7 +11,6 @@ use Rattle.context.specs.declared.GateOperand.{GateOperand as Operand}
 use Rattle.context.specs.declared.Symbol.{Symbol as SymbolValue}
 use Rattle.std.specs.Prelude.{Option as Maybe, Some, None, is_some as is_present}
 use Rattle.context.specs.declared.Sink.{Sink}
-use Rattle.context.specs.Sink.{SinkFits}
 use Rattle.context.specs.Values.{number_of, ends_of, operand_of, kind_of, symbol_of, found_of}
 use Rattle.lines.specs.declared.Expected.{Expected}
 use Rattle.lines.specs.declared.Message.{Message}
@@ -92,10 +91,10 @@ module _ (op : Operand) (v : SymbolValue) where
 module _ {t : List Text} {s : Sink} {o : List ℕ} where
   module _ (op : Operand) (sym : SymbolValue) where
     -- nothing is said
-    pub kind_fits : SinkFits s → (expected : Expected) (b : Bool) → b ≡ fits (expected_of expected) (kind_of sym.kind) → b ≡ true
+    pub kind_fits : (expected : Expected) (b : Bool) → b ≡ fits (expected_of expected) (kind_of sym.kind) → b ≡ true
         → Emitted t (kind_says (operand_of op) (symbol_of sym) (expected_of expected)) s o s o
     unfolding kind_says
-    kind_fits h expected b f e = rw (← f, e) (emitted-none h)
+    kind_fits expected b f e = rw (← f, e) emitted-none
 
     -- an error is said
     module _ {d : Diagnostic} {r : Sink} {o' : List ℕ} (p : Reported t d s o r o') where

@@ -17,7 +17,6 @@ use Rattle.sema.specs.Operands.{used_says, used_index_says, use_by, check_use_af
 use Rattle.std.specs.Prelude.{Option as Maybe, Some, None}
 use Rattle.context.specs.declared.GateOperand.{GateOperand as Operand}
 use Rattle.context.specs.declared.Sink.{Sink}
-use Rattle.context.specs.Sink.{SinkFits}
 use Rattle.context.specs.Values.{number_of, ends_of, operand_of}
 use Rattle.context.specs.View.{span_at, stmt_span, measure_span, place_in, mark_by, marks_of, PlaceOk, Placed}
 use Rattle.lines.specs.declared.Message.{Message}
@@ -123,9 +122,9 @@ module _ (tree : List ℕ) (ks : List Key) (sheet : List ℕ) where
 -- what is said
 module _ {t : List Text} {s : Sink} {o : List ℕ} (tree : List ℕ) (ks : List Key) (sheet : List ℕ) (sp : Span) where
   module _ (x a b : ℕ) (c : Maybe (ℕ × ℕ)) (d : Distinct ks) (e : c ≡ smallest_in ks sheet x (a, b)) where
-    pub slice_unused : SinkFits s → c ≡ None → Emitted t (used_index_says x sp (smallest_covered (marks_of tree ks sheet) x (a, b))) s o s o
+    pub slice_unused : c ≡ None → Emitted t (used_index_says x sp (smallest_covered (marks_of tree ks sheet) x (a, b))) s o s o
     unfolding used_index_says
-    slice_unused h f = rw (covered_is tree ks sheet x a b c d e, f) (emitted-none h)
+    slice_unused f = rw (covered_is tree ks sheet x a b c d e, f) emitted-none
 
     pub slice-used : {i p : ℕ} (at : Span) → c ≡ Some (i, p) → at ≡ measure_span tree p
         → {v : Diagnostic} {r : Sink} {o' : List ℕ} → v ≡ error_with_note_of (Message.UsedIndex x i) sp Note.MeasuredHere at → Reported t v s o r o'
@@ -141,9 +140,9 @@ module _ {t : List Text} {s : Sink} {o : List ℕ} (tree : List ℕ) (ks : List 
     use_slice e p = rw e p
 
     module _ (f : op.slice ≡ None) (q : ℕ) (e : q ≡ lookup_in ks sheet op.name (number_of op.index)) where
-      pub use_none : SinkFits s → q ≡ 0 → Emitted t (check_use_after_measure (marks_of tree ks sheet) (operand_of op) sp) s o s o
+      pub use_none : q ≡ 0 → Emitted t (check_use_after_measure (marks_of tree ks sheet) (operand_of op) sp) s o s o
       unfolding used_says
-      use_none h z = emitted_as (emitted-none h) (use_by_lem tree ks sheet op sp (ap ends_of f) q e none (mark-none tree q z))
+      use_none z = emitted_as emitted-none (use_by_lem tree ks sheet op sp (ap ends_of f) q e none (mark-none tree q z))
 
       pub use_marked : (at : Span) → (q ≡ 0 → ⊥) → at ≡ measure_span tree q
           → {v : Diagnostic} {r : Sink} {o' : List ℕ} → v ≡ error_with_note_of (Message.Used op) sp Note.MeasuredHere at → Reported t v s o r o'

@@ -20,7 +20,6 @@ use Rattle.sema.specs.Stmts.{wide, register_widths, all_equal, widths_say}
 use Rattle.std.specs.Prelude.{Option as Maybe}
 use Rattle.context.specs.declared.GateOperand.{GateOperand as Operand}
 use Rattle.context.specs.declared.Sink.{Sink}
-use Rattle.context.specs.Sink.{SinkFits}
 use Rattle.context.specs.Values.{number_of, operand_of}
 use Rattle.accepted.specs.Cases.{blank_operand}
 use Rattle.accepted.specs.Parts.{value_or, next_is, value_is, given_is, given_ok}
@@ -76,15 +75,13 @@ module _ (t : List Text) (s : List ℕ) (at : ℕ) where
 -- Uses: what is said of the operands left, behind what is said so far, is what is said of all.
 pub record Using (t : List Text) (tree : List ℕ) (ss : Symbols) (m : Marks) (sp : Span) (at : ℕ) (s : Sink) (o : List ℕ) (n k : ℕ) (r : Sink) (o' : List ℕ) : Type 0 where
   pub remains : Left t tree at n k
-  pub fits : SinkFits r
   pub same_length : length o' ≡ length o
   pub all : {q : Sink} {o'' : List ℕ} → Emitted t (use_operands ss m sp (left t tree n k)) r o' q o'' → Emitted t (given [] (use_operands ss m sp) (vec (operand t) tree at)) s o q o''
 
 module _ (t : List Text) (tree : List ℕ) (ss : Symbols) (m : Marks) (sp : Span) (at : ℕ) (s : Sink) (o : List ℕ) where
-  pub using_start : (n : ℕ) → IsOk (vec (operand t) tree at) → SinkFits s → n ≡ get_or tree at 0 → Using t tree ss m sp at s o (n - 0) (at + 1) s o
-  using_start n h f e = record {
+  pub using_start : (n : ℕ) → IsOk (vec (operand t) tree at) → n ≡ get_or tree at 0 → Using t tree ss m sp at s o (n - 0) (at + 1) s o
+  using_start n h e = record {
     remains = remains-none [] ◌∷◌ (operand t) tree at n h e;
-    fits = f;
     same_length = refl;
     all = λ p. emitted_as p (sym (left-all t tree at [] (use_operands ss m sp) n h e));
   }
@@ -96,7 +93,6 @@ module _ (t : List Text) (tree : List ℕ) (ss : Symbols) (m : Marks) (sp : Span
     unfolding use_operands
     using_more l op next e q o'' g p = record {
       remains = left-next t tree at n i k u.remains l op next e;
-      fits = p.fits;
       same_length = g ∙ u.same_length;
       all = λ z. u.all (emitted_as (emitted_then p z) (sym (ap (use_operands ss m sp) (left_is t tree at n i k u.remains l op next e))));
     }
@@ -113,11 +109,11 @@ module _ (t : List Text) (tree : List ℕ) (ss : Symbols) (m : Marks) (sp : Span
       using_pass =
           let j = single_is t tree k (left-first t tree at n i k u.remains l) using_single in
           let z = sym (given_is j false (λ op. nothing (check_operand ss op a_qubit ++ check_use_after_measure m op sp))) ∙ both_second (is_single tree k) _ (sym (f sp) ∙ e) in
-          using_more l _ (k + 20) j r o' refl (emitted_as (emitted-none u.fits) (sym (nothing_is _ z)))
+          using_more l _ (k + 20) j r o' refl (emitted_as emitted-none (sym (nothing_is _ z)))
 
     pub using_end : n ≤ i → Emitted t (given [] (use_operands ss m sp) (vec (operand t) tree at)) s o r o'
     unfolding use_operands
-    using_end l = u.all (emitted_as (emitted-none u.fits) (sym (ap (use_operands ss m sp) (left-none t tree at n i k u.remains l))))
+    using_end l = u.all (emitted_as emitted-none (sym (ap (use_operands ss m sp) (left-none t tree at n i k u.remains l))))
 
 -- Widths: those of the operands left, behind those that were met, agree if all do.
 pub record Meeting (t : List Text) (tree : List ℕ) (ss : Symbols) (at n k : ℕ) (met : Widths) : Type 0 where
@@ -187,13 +183,13 @@ module _ (ss : Symbols) (sp : Span) (x : Ans (List GateOperand)) (h : IsOk x) (m
       ∙ sym (given_ok [] [] (λ ops. widths_say sp (register_widths ss ops)) x h ∙ widths_say_lem sp (register_widths ss (value_or [] x)))
 
   module _ {t : List Text} {s : Sink} {o : List ℕ} where
-    pub broadcast_none : SinkFits s → met ≡ Widths.None → Emitted t (given [] (λ ops. widths_say sp (register_widths ss ops)) x) s o s o
+    pub broadcast_none : met ≡ Widths.None → Emitted t (given [] (λ ops. widths_say sp (register_widths ss ops)) x) s o s o
     unfolding agree uniform
-    broadcast_none f g = emitted_as (rw g (emitted-none f)) broadcast_is
+    broadcast_none g = emitted_as (rw g emitted-none) broadcast_is
 
-    pub broadcast_all : {w : ℕ} → SinkFits s → met ≡ Widths.All w → Emitted t (given [] (λ ops. widths_say sp (register_widths ss ops)) x) s o s o
+    pub broadcast_all : {w : ℕ} → met ≡ Widths.All w → Emitted t (given [] (λ ops. widths_say sp (register_widths ss ops)) x) s o s o
     unfolding agree all_equal
-    broadcast_all f g = emitted_as (rw g (emitted-none f)) broadcast_is
+    broadcast_all g = emitted_as (rw g emitted-none) broadcast_is
 
     pub broadcast_differ : met ≡ Widths.Differ → {d : Diagnostic} {r : Sink} {o' : List ℕ} → d ≡ error_of Message.Broadcasting sp → Reported t d s o r o'
         → Emitted t (given [] (λ ops. widths_say sp (register_widths ss ops)) x) s o r o'

@@ -17,7 +17,6 @@ use Rattle.std.specs.Option.{unwrap_or}
 use Rattle.context.specs.declared.GateOperand.{GateOperand as Operand}
 use Rattle.context.specs.declared.Symbol.{Symbol as SymbolValue}
 use Rattle.context.specs.declared.Sink.{Sink}
-use Rattle.context.specs.Sink.{SinkFits}
 use Rattle.context.specs.Values.{number_of, ends_of, operand_of, found_of}
 use Rattle.lines.specs.declared.Message.{Message}
 use Rattle.lines.specs.declared.Note.{Note}
@@ -112,19 +111,19 @@ module _ (met : Widths) (width : Maybe ℕ) (ws : List ℕ) where
 
 -- the widths of a measurement
 module _ {t : List Text} {s : Sink} {o : List ℕ} (ss : Symbols) (qubit target : Operand) (sp : Span) {a : Maybe ℕ} (e : number_of a ≡ operand_width ss (operand_of qubit)) where
-  pub source_none : SinkFits s → a ≡ None → Emitted t (measure_widths ss (operand_of qubit) sp (operand_of target)) s o s o
+  pub source_none : a ≡ None → Emitted t (measure_widths ss (operand_of qubit) sp (operand_of target)) s o s o
   unfolding widths_by
-  source_none h f = rw (← e, f) (emitted-none h)
+  source_none f = rw (← e, f) emitted-none
 
   module _ {b : Maybe ℕ} (g : number_of b ≡ operand_width ss (operand_of target)) {m : ℕ} (f : a ≡ Some m) where
-    pub target_none : SinkFits s → b ≡ None → Emitted t (measure_widths ss (operand_of qubit) sp (operand_of target)) s o s o
+    pub target_none : b ≡ None → Emitted t (measure_widths ss (operand_of qubit) sp (operand_of target)) s o s o
     unfolding widths_by
-    target_none h j = rw (← e, ← g, f, j) (emitted-none h)
+    target_none j = rw (← e, ← g, f, j) emitted-none
 
     module _ {n : ℕ} (j : b ≡ Some n) where
-      pub widths_same : SinkFits s → m ≡ n → Emitted t (measure_widths ss (operand_of qubit) sp (operand_of target)) s o s o
+      pub widths_same : m ≡ n → Emitted t (measure_widths ss (operand_of qubit) sp (operand_of target)) s o s o
       unfolding widths_by
-      widths_same h k = rw (← e, ← g, f, j, eq-eqb m n k) (emitted-none h)
+      widths_same k = rw (← e, ← g, f, j, eq-eqb m n k) emitted-none
 
       pub widths_other : (m ≡ n → ⊥) → {d : Diagnostic} {r : Sink} {o' : List ℕ} → d ≡ error_with_note_of (Message.MeasurementWidths m n) sp Note.TargetDeclared target.span
           → Reported t d s o r o' → Emitted t (measure_widths ss (operand_of qubit) sp (operand_of target)) s o r o'

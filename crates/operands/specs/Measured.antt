@@ -4,4 +4,4 @@ use Rattle.context.specs.View.{keys_in, marks_of}
 use Rattle.operands.specs.declared.measured.Measured.{Measured}
 
 abbrev pub marks : Measured → Marks
-marks m = marks_of m.sema.tree.now (keys_in m.sema.index.now m.keys) m.marks.now
+marks m = marks_of m.sema.texts.tree.now (keys_in m.index.now m.keys) m.marks.now

@@ -2,10 +2,8 @@
 ghost use Rattle.std.specs.Prelude.{◌≡◌, ◌<◌, length};
 ghost use Rattle.tree.specs.Decode.{texts_of};
 ghost use Rattle.sema.specs.Operands.{index_says, slice_says, bounds_say};
-ghost use Rattle.context.specs.Sink.{SinkFits};
 ghost use Rattle.context.specs.Values.{number_of, ends_of, operand_of, symbol_of};
 ghost use Rattle.context.specs.Given.{texts};
-ghost use Rattle.context.specs.View.{TextsAt};
 ghost use Rattle.lines.specs.Values.{expected_of, error_with_note_of, Fits, Reported};
 ghost use Rattle.promises.specs.Emitted.{Emitted};
 ghost use Rattle.operands.specs.Says.{kind_says, index_fault_says, slice_fault_says, nothing};
@@ -24,11 +22,11 @@ fn report_declared(
     note: Note,
     sink: Sink,
 ) -> Sink
-    requires { Fits (length (texts sema)) (error_with_note_of message op.span note symbol.decl_span) × SinkFits sink }
+    requires { Fits (length (texts sema)) (error_with_note_of message op.span note symbol.decl_span) }
     ensures { Reported (texts sema.entry) (error_with_note_of message op.span note symbol.decl_span) sink out.old result out.new }
 {
     let d = error_with_note(message, op.span, note, symbol.decl_span);
-    lines::report(out, sink, sema.tree, sema.index, d)
+    lines::report(out, sink, sema.texts, d)
 }
 
 pub fn check_kind(
@@ -39,7 +37,7 @@ pub fn check_kind(
     expected: Expected,
     sink: Sink,
 ) -> Sink
-    requires { (op.name < length (texts sema)) × SinkFits sink }
+    requires { op.name < length (texts sema) }
     ensures { Emitted (texts sema.entry) (kind_says (operand_of op) (symbol_of symbol) (expected_of expected)) sink out.old result out.new }
 {
     let kind = symbol.kind;
@@ -97,7 +95,7 @@ fn check_index(
     symbol: Symbol,
     sink: Sink,
 ) -> Sink
-    requires { (op.name < length (texts sema)) × SinkFits sink }
+    requires { op.name < length (texts sema) }
     ensures { Emitted (texts sema.entry) (index_says (operand_of op) (symbol_of symbol) (number_of op.index) (number_of symbol.size)) sink out.old result out.new }
 {
     match index_fault(op, symbol) {
@@ -130,7 +128,7 @@ fn check_slice(
     symbol: Symbol,
     sink: Sink,
 ) -> Sink
-    requires { (op.name < length (texts sema)) × SinkFits sink }
+    requires { op.name < length (texts sema) }
     ensures { Emitted (texts sema.entry) (slice_says (operand_of op) (symbol_of symbol) (ends_of op.slice) (number_of symbol.size)) sink out.old result out.new }
 {
     match slice_fault(op, symbol) {
@@ -138,8 +136,7 @@ fn check_slice(
         Some(Fault::WithoutSize) => lines::report(
             out,
             sink,
-            sema.tree,
-            sema.index,
+            sema.texts,
             error(Message::CannotSlice(op.name), op.span),
         ),
         Some(Fault::OutOfBounds((a, b), n)) => report_declared(
@@ -171,15 +168,14 @@ pub fn check_bounds(
     symbol: Symbol,
     sink: Sink,
 ) -> Sink
-    requires { (op.name < length (texts sema)) × SinkFits sink }
+    requires { op.name < length (texts sema) }
     ensures { Emitted (texts sema.entry) (bounds_say (operand_of op) (symbol_of symbol)) sink out.old result out.new }
 {
     if indexes_wire(op, symbol.kind) {
         return lines::report(
             out,
             sink,
-            sema.tree,
-            sema.index,
+            sema.texts,
             error(Message::CannotIndexGateQubit(op.name), op.span),
         );
     }

@@ -15,10 +15,9 @@ ghost use Rattle.tree.specs.Decode.{texts_of};
 ghost use Rattle.sema.specs.Operands.{check_operand, operand_width, check_use_after_measure, use_operands};
 ghost use Rattle.sema.specs.Messages.{a_qubit};
 ghost use Rattle.sema.specs.Stmts.{register_widths, widths_say};
-ghost use Rattle.context.specs.Sink.{SinkFits};
 ghost use Rattle.context.specs.Values.{number_of, operand_of};
 ghost use Rattle.context.specs.Given.{texts, scopes};
-ghost use Rattle.context.specs.View.{TextsAt, Placed, keys_in, scopes_of, marks_of};
+ghost use Rattle.context.specs.View.{Placed, keys_in, scopes_of, marks_of};
 ghost use Rattle.lines.specs.Values.{expected_of};
 ghost use Rattle.sheet.specs.Sheet.{Indexed, Distinct};
 ghost use Rattle.promises.specs.Emitted.{Emitted};
@@ -42,15 +41,14 @@ pub fn check_operand(
     expected: Expected,
     sink: Sink,
 ) -> Sink
-    requires { (op.name < length (texts sema)) × SinkFits sink }
+    requires { op.name < length (texts sema) }
     ensures { Emitted (texts sema.entry) (check_operand (scopes sema.entry) (operand_of op) (expected_of expected)) sink out.old result out.new }
 {
     let Some(symbol) = tables::get(sema.scratch, sema.depth, op.name) else {
         return lines::report(
             out,
             sink,
-            sema.tree,
-            sema.index,
+            sema.texts,
             error(Message::NotDeclared(op.name), op.span),
         );
     };
@@ -75,7 +73,7 @@ pub fn check_measure_widths(
     span: Span,
     sink: Sink,
 ) -> Sink
-    requires { (qubit.name < length (texts sema)) × (target.name < length (texts sema)) × SinkFits sink }
+    requires { (qubit.name < length (texts sema)) × (target.name < length (texts sema)) }
     ensures { Emitted (texts sema.entry) (measure_widths (scopes sema.entry) (operand_of qubit) span (operand_of target)) sink out.old result out.new }
 {
     let Some(a) = operand_width(sema, qubit) else {
@@ -90,8 +88,7 @@ pub fn check_measure_widths(
     lines::report(
         out,
         sink,
-        sema.tree,
-        sema.index,
+        sema.texts,
         error_with_note(
             Message::MeasurementWidths(a, b),
             span,
@@ -108,23 +105,22 @@ fn check_use_after_measure(
     span: Span,
     sink: Sink,
 ) -> Sink
-    requires { (op.name < length (texts m.sema)) × SinkFits sink }
+    requires { op.name < length (texts m.sema) }
     ensures { Emitted (texts m.entry.sema) (check_use_after_measure (marks m.entry) (operand_of op) span) sink out.old result out.new }
 {
     if let Some((a, b)) = op.slice {
         return uses::check_slice_use(m, out, op.name, a, b, span, sink);
     }
-    let place = sheet::lookup(m.marks, m.sema.index, m.keys, op.name, op.index);
+    let place = sheet::lookup(m.marks, m.index, m.keys, op.name, op.index);
     if place == 0 {
         return sink;
     }
     // std has no From<u64> for usize, and a place is one of the tree.
-    let at = uses::measure_span(m.sema.tree, place as usize);
+    let at = uses::measure_span(m.sema.texts.tree, place as usize);
     lines::report(
         out,
         sink,
-        m.sema.tree,
-        m.sema.index,
+        m.sema.texts,
         error_with_note(Message::Used(op), span, Note::MeasuredHere, at),
     )
 }
@@ -142,7 +138,7 @@ fn is_quiet(sema: SemaContext<'_>, op: GateOperand, expected: Expected) -> bool
 
 // An operand of a gate call, a barrier or a delay. Of most there is nothing to say but of their use.
 fn use_operand(m: Measured<'_, '_>, out: &mut [u8], op: GateOperand, span: Span, sink: Sink) -> Sink
-    requires { (op.name < length (texts m.sema)) × SinkFits sink }
+    requires { op.name < length (texts m.sema) }
     ensures { Emitted (texts m.entry.sema) (check_operand (scopes m.entry.sema) (operand_of op) a_qubit ++ check_use_after_measure (marks m.entry) (operand_of op) span) sink out.old result out.new }
 {
     if is_quiet(m.sema, op, Expected::Qubit) {
@@ -154,29 +150,29 @@ fn use_operand(m: Measured<'_, '_>, out: &mut [u8], op: GateOperand, span: Span,
 
 // Has such an operand an index and no slice, and is there nothing to say of it?
 fn passes(m: Measured<'_, '_>, at: usize) -> bool
-    requires { IsOk (operand (texts m.sema) m.sema.tree.now at) }
-    ensures { (sp : Span) → result ≡ passing (texts m.entry.sema) m.entry.sema.tree.now (scopes m.entry.sema) (marks m.entry) sp at }
+    requires { IsOk (operand (texts m.sema) m.sema.texts.tree.now at) }
+    ensures { (sp : Span) → result ≡ passing (texts m.entry.sema) m.entry.sema.texts.tree.now (scopes m.entry.sema) (marks m.entry) sp at }
 {
-    if !is_single(m.sema.tree, at) {
+    if !is_single(m.sema.texts.tree, at) {
         return false;
     }
-    let op = single_at(m.sema.tree, at);
+    let op = single_at(m.sema.texts.tree, at);
     is_quiet(m.sema, op, Expected::Qubit)
-        && sheet::lookup(m.marks, m.sema.index, m.keys, op.name, op.index) == 0
+        && sheet::lookup(m.marks, m.index, m.keys, op.name, op.index) == 0
 }
 
 // A Vec of them.
 pub fn use_operands(m: Measured<'_, '_>, out: &mut [u8], at: usize, span: Span, sink: Sink) -> Sink
-    requires { IsOk (vec (operand (texts m.sema)) m.sema.tree.now at) × SinkFits sink }
-    ensures { Emitted (texts m.entry.sema) (given [] (use_operands (scopes m.entry.sema) (marks m.entry) span) (vec (operand (texts m.entry.sema)) m.entry.sema.tree.now at)) sink out.old result out.new }
+    requires { IsOk (vec (operand (texts m.sema)) m.sema.texts.tree.now at) }
+    ensures { Emitted (texts m.entry.sema) (given [] (use_operands (scopes m.entry.sema) (marks m.entry) span) (vec (operand (texts m.entry.sema)) m.entry.sema.texts.tree.now at)) sink out.old result out.new }
 {
     let mut k = at + 1;
     let mut s = sink;
-    for _ in 0..m.sema.tree[at] {
+    for _ in 0..m.sema.texts.tree[at] {
         if passes(m, k) {
             k += 20;
         } else {
-            let op = operand_at(m.sema.tree, k);
+            let op = operand_at(m.sema.texts.tree, k);
             s = use_operand(m, out, op.value, span, s);
             k = op.next;
         }
@@ -186,20 +182,20 @@ pub fn use_operands(m: Measured<'_, '_>, out: &mut [u8], at: usize, span: Span, 
 
 // The widths above 1 of a Vec of operands. One alone has none beside it.
 fn register_widths(sema: SemaContext<'_>, at: usize) -> Widths
-    requires { IsOk (vec (operand (texts sema)) sema.tree.now at) }
-    ensures { agree result [] ≡ given true (λ ops. uniform (register_widths (scopes sema.entry) ops)) (vec (operand (texts sema.entry)) sema.entry.tree.now at) }
+    requires { IsOk (vec (operand (texts sema)) sema.texts.tree.now at) }
+    ensures { agree result [] ≡ given true (λ ops. uniform (register_widths (scopes sema.entry) ops)) (vec (operand (texts sema.entry)) sema.entry.texts.tree.now at) }
 {
-    let n = sema.tree[at];
+    let n = sema.texts.tree[at];
     let mut k = at + 1;
     let mut met = Widths::None;
     if n < 2 {
         return met;
     }
     for _ in 0..n {
-        if is_single(sema.tree, k) {
+        if is_single(sema.texts.tree, k) {
             k += 20;
         } else {
-            let op = operand_at(sema.tree, k);
+            let op = operand_at(sema.texts.tree, k);
             met = widths::meet(met, operand_width(sema, op.value));
             k = op.next;
         }
@@ -215,17 +211,11 @@ pub fn check_broadcasting(
     span: Span,
     sink: Sink,
 ) -> Sink
-    requires { IsOk (vec (operand (texts sema)) sema.tree.now at) × SinkFits sink }
-    ensures { Emitted (texts sema.entry) (given [] (λ ops. widths_say span (register_widths (scopes sema.entry) ops)) (vec (operand (texts sema.entry)) sema.entry.tree.now at)) sink out.old result out.new }
+    requires { IsOk (vec (operand (texts sema)) sema.texts.tree.now at) }
+    ensures { Emitted (texts sema.entry) (given [] (λ ops. widths_say span (register_widths (scopes sema.entry) ops)) (vec (operand (texts sema.entry)) sema.entry.texts.tree.now at)) sink out.old result out.new }
 {
     match register_widths(sema, at) {
         Widths::None | Widths::All(_) => sink,
-        Widths::Differ => lines::report(
-            out,
-            sink,
-            sema.tree,
-            sema.index,
-            error(Message::Broadcasting, span),
-        ),
+        Widths::Differ => lines::report(out, sink, sema.texts, error(Message::Broadcasting, span)),
     }
 }

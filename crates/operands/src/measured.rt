@@ -4,15 +4,16 @@ ghost use Rattle.operands.specs.Props.{distinct_once, place_once};
 ghost use Rattle.std.proofs.Props.{props};
 ghost use Rattle.sheet.specs.Sheet.{Indexed, Distinct};
 
-use context::SemaContext;
+use context::{Index, SemaContext};
 
-// The mark sheet, and how many keys of the index it is for.
+// The mark sheet, and the keys that it is for, so many of the index.
 #[derive(Clone, Copy)]
 pub struct Measured<'a, 'm> {
     pub sema: SemaContext<'a>,
+    pub index: &'a Index,
     pub keys: usize,
     pub marks: &'m [u16; 256],
-    pub ghost indexed: { Indexed sema.index.now keys },
-    pub ghost distinct: { Distinct (keys_in sema.index.now keys) } by { distinct_once (keys_in sema.index.now keys) },
-    pub ghost placed: { Placed sema.tree.now marks.now } by { Prim.hlevel (props, place_once) },
+    pub ghost indexed: { Indexed index.now keys },
+    pub ghost distinct: { Distinct (keys_in index.now keys) } by { distinct_once (keys_in index.now keys) },
+    pub ghost placed: { Placed sema.texts.tree.now marks.now } by { Prim.hlevel (props, place_once) },
 }

@@ -5,9 +5,8 @@ ghost use Rattle.tree.specs.Stmts.{measure};
 ghost use Rattle.tree.specs.Decode.{texts_of};
 ghost use Rattle.sema.specs.Marks.{smallest_covered};
 ghost use Rattle.sema.specs.Operands.{used_index_says};
-ghost use Rattle.context.specs.Sink.{SinkFits};
 ghost use Rattle.context.specs.Given.{texts};
-ghost use Rattle.context.specs.View.{TextsAt, Placed, keys_in, marks_of, measure_span};
+ghost use Rattle.context.specs.View.{Placed, keys_in, marks_of, measure_span};
 ghost use Rattle.sheet.specs.Sheet.{Indexed, Distinct};
 ghost use Rattle.operands.specs.Measured.{marks};
 ghost use Rattle.promises.specs.Emitted.{Emitted};
@@ -39,19 +38,18 @@ pub fn check_slice_use(
     span: Span,
     sink: Sink,
 ) -> Sink
-    requires { (x < length (texts m.sema)) × SinkFits sink }
+    requires { x < length (texts m.sema) }
     ensures { Emitted (texts m.entry.sema) (used_index_says x span (smallest_covered (marks m.entry) x (a, b))) sink out.old result out.new }
 {
-    let Some((i, place)) = sheet::smallest(m.marks, m.sema.index, m.keys, x, a, b) else {
+    let Some((i, place)) = sheet::smallest(m.marks, m.index, m.keys, x, a, b) else {
         return sink;
     };
     // std has no From<u64> for usize, and a place is one of the tree.
-    let at = measure_span(m.sema.tree, place as usize);
+    let at = measure_span(m.sema.texts.tree, place as usize);
     lines::report(
         out,
         sink,
-        m.sema.tree,
-        m.sema.index,
+        m.sema.texts,
         error_with_note(Message::UsedIndex(x, i), span, Note::MeasuredHere, at),
     )
 }

@@ -19,7 +19,6 @@ use Rattle.sema.specs.Symbols.{GateSig, Table}
 use Rattle.sema.specs.Operands.{unless}
 use Rattle.context.specs.declared.Sink.{Sink}
 use Rattle.context.specs.declared.GateSig.{GateSig as GateValue}
-use Rattle.context.specs.Sink.{SinkFits}
 use Rattle.context.specs.Values.{found_gate_of}
 use Rattle.sema.specs.Messages.{name_at}
 use Rattle.lines.specs.Stored.{Shown}
@@ -51,14 +50,14 @@ module _ (c : Call) (params qubits : ℕ) where
   pub arity_unlike : (c.params ≡ params → ⊥) → false ≡ fits_arity c params qubits
   arity_unlike e = rw (ne_eqb c.params params e)
 
-  pub arity_fits : {t : List Text} (decl : Option (Note × Span)) {s : Sink} {o : List ℕ} (b : Bool) → b ≡ fits_arity c params qubits → b ≡ true → SinkFits s → Emitted t (arity_by c params qubits (secondary_of decl)) s o s o
-  arity_fits decl b is e f =
+  pub arity_fits : {t : List Text} (decl : Option (Note × Span)) {s : Sink} {o : List ℕ} (b : Bool) → b ≡ fits_arity c params qubits → b ≡ true → Emitted t (arity_by c params qubits (secondary_of decl)) s o s o
+  arity_fits decl b is e =
       let g = (and-eq-true_iff (eqb c.params params) (eqb c.args (qubits + c.controls))).0 (sym is ∙ e) in
-      emitted_then (unless_holds _ _ g.0 f) (unless_holds _ _ g.1 f)
+      emitted_then (unless_holds _ _ g.0) (unless_holds _ _ g.1)
 
 module _ {t : List Text} (c : Call) (n : ℕ) (decl : Option (Note × Span)) {s : Sink} {o : List ℕ} where
-  pub params_fit : c.params ≡ n → SinkFits s → Emitted t (params_by c n (secondary_of decl)) s o s o
-  params_fit e f = unless_holds _ _ (eq-eqb c.params n e) f
+  pub params_fit : c.params ≡ n → Emitted t (params_by c n (secondary_of decl)) s o s o
+  params_fit e = unless_holds _ _ (eq-eqb c.params n e)
 
   pub params-differ : {r : Sink} {o' : List ℕ} → (c.params ≡ n → ⊥)
       → Reported t (record { severity = Severity.Error; message = Message.GateParams c.name n c.params; span = c.span; secondary = decl }) s o r o'
@@ -66,8 +65,8 @@ module _ {t : List Text} (c : Call) (n : ℕ) (decl : Option (Note × Span)) {s 
   params-differ e p = unless_fails _ (ne_eqb c.params n e) p
 
   module _ {b : Bool} (is : b ≡ eqb c.args (n + c.controls)) where
-    pub qubits_fit : b ≡ true → SinkFits s → Emitted t (qubits_by c n (secondary_of decl)) s o s o
-    qubits_fit e f = unless_holds _ _ (sym is ∙ e) f
+    pub qubits_fit : b ≡ true → Emitted t (qubits_by c n (secondary_of decl)) s o s o
+    qubits_fit e = unless_holds _ _ (sym is ∙ e)
 
     pub qubits-differ : {r : Sink} {o' : List ℕ} → b ≡ false
         → Reported t (record { severity = Severity.Error; message = Message.GateQubits c.name c.controls n c.args; span = c.span; secondary = decl }) s o r o'
@@ -86,8 +85,8 @@ module _ (t : List Text) (c : Call) {text : List ℕ} (e : Shown text (name_at t
   unfolding standard_by
   standard_some gate k m = emitted_as m (ap (standard_by c) (sym k ∙ signature_is))
 
-  pub standard_fits : {s : Sink} {o : List ℕ} (gate : StandardGate) (b : Bool) → f ≡ Some gate → b ≡ fits_arity c gate.params gate.qubits → b ≡ true → SinkFits s → Emitted t (standard_of t c) s o s o
-  standard_fits gate b k is h m = standard_some gate k (arity_fits c gate.params gate.qubits None b is h m)
+  pub standard_fits : {s : Sink} {o : List ℕ} (gate : StandardGate) (b : Bool) → f ≡ Some gate → b ≡ fits_arity c gate.params gate.qubits → b ≡ true → Emitted t (standard_of t c) s o s o
+  standard_fits gate b k is h = standard_some gate k (arity_fits c gate.params gate.qubits None b is h)
 
   pub standard_none : {s : Sink} {o : List ℕ} {r : Sink} {o' : List ℕ} {d : DiagnosticValue} → f ≡ None → d ≡ error_of (Message.GateNotDefined c.name) c.span → Reported t d s o r o' → Emitted t (standard_of t c) s o r o'
   unfolding standard_by
@@ -103,5 +102,5 @@ module _ {t : List Text} (gs : Table GateSig) (c : Call) {s : Sink} {o : List �
   unfolding signature_by
   defined sig k m = rw (← e, k, signature_by) m
 
-  pub defined-fits : (sig : GateValue) (b : Bool) → f ≡ Some sig → b ≡ fits_arity c sig.param_count sig.qubit_count → b ≡ true → SinkFits s → Emitted t (signature_by t gs c) s o s o
-  defined-fits sig b k is h m = defined sig k (arity_fits c _ _ (Some ((Note.DefinedHere c.name), sig.decl_span)) b is h m)
+  pub defined-fits : (sig : GateValue) (b : Bool) → f ≡ Some sig → b ≡ fits_arity c sig.param_count sig.qubit_count → b ≡ true → Emitted t (signature_by t gs c) s o s o
+  defined-fits sig b k is h = defined sig k (arity_fits c _ _ (Some ((Note.DefinedHere c.name), sig.decl_span)) b is h)

@@ -26,7 +26,6 @@ use Rattle.context.specs.declared.GateOperand.{GateOperand as Operand}
 use Rattle.context.specs.declared.Sink.{Sink}
 use Rattle.context.specs.declared.After.{After}
 use Rattle.context.specs.declared.State.{State}
-use Rattle.context.specs.Sink.{SinkFits}
 use Rattle.std.specs.Prelude.{Option as Maybe, Some, None}
 use Rattle.context.specs.Values.{operand_of, number_of, ends_of}
 use Rattle.context.specs.View.{number_at, PlaceOk, Placed, scopes_of, keys_in, marks_of, mark_by, measure_span, span_at, context_of}
@@ -78,8 +77,8 @@ module _ (tree : List ℕ) (ks : List Key) (sheet : List ℕ) (x : TextNumber) (
       go (suc p) z = refl
 
   module _ {t : List Text} {s : Sink} {o : List ℕ} where
-    pub measured-first : (d : Diagnostic) → place ≡ 0 → SinkFits s → Emitted t (unless (not (is_some (lookup_measured (marks_of tree ks sheet) x i))) d) s o s o
-    measured-first d z f = unless_holds _ d (unmarked z) f
+    pub measured-first : (d : Diagnostic) → place ≡ 0 → Emitted t (unless (not (is_some (lookup_measured (marks_of tree ks sheet) x i))) d) s o s o
+    measured-first d z = unless_holds _ d (unmarked z)
 
     pub measured-again : (op : Operand) (sp : Span) {d : DiagnosticValue} {r : Sink} {o' : List ℕ} → d ≡ warning_of (Message.AlreadyMeasured op) sp → (place ≡ 0 → ⊥) → Reported t d s o r o'
         → Emitted t (unless (not (is_some (lookup_measured (marks_of tree ks sheet) x i))) (warning (already_measured (operand_of op)) sp)) s o r o'
@@ -91,12 +90,12 @@ pub target_said : {t : List Text} (ss : Symbols) (qubit target : GateOperand) (s
 target_said ss qubit target sp a b = emitted_as (emitted_then a b) (sym (measure_target_lem ss qubit sp target))
 
 module _ (t : List Text) (tree : List ℕ) (at : ℕ) (h : IsOk (option (operand t) tree at)) where
-  pub target_none : (ss : Symbols) (qubit : GateOperand) → get_or tree at 0 ≡ 0 → {s : Sink} {o : List ℕ} → SinkFits s
+  pub target_none : (ss : Symbols) (qubit : GateOperand) → get_or tree at 0 ≡ 0 → {s : Sink} {o : List ℕ}
       → SaidOf t (measure_target ss qubit (span_at tree (at + 1))) (option (operand t) tree at) s o (record { next = at + 1; sink = s }) o
   unfolding measure_target
-  target_none ss qubit z f =
+  target_none ss qubit z =
       let is = option-none tree at (operand t) h z in
-      record { next = sym (next_is is); emitted = emitted_as (emitted-none f) (sym (given_is is [] (measure_target ss qubit (span_at tree (at + 1))))) }
+      record { next = sym (next_is is); emitted = emitted_as emitted-none (sym (given_is is [] (measure_target ss qubit (span_at tree (at + 1))))) }
 
   module _ (z : get_or tree at 0 ≡ 0 → ⊥) (op : Operand) (k : ℕ) (e : operand t tree (at + 1) ≡ ok (operand_of op) k) where
     option_is : option (operand t) tree at ≡ ok (some (operand_of op)) k

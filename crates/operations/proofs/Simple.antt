@@ -46,7 +46,7 @@ module _ (tree index : List ℕ) (keys left : ℕ) (st : State) (h : IsOk (stmt 
   pub include-walked : {s o : List ℕ} → Ready tree s st → get_or tree st.at 0 ≡ 0 → StmtWalked tree index keys left st s o (state_of (st.at + 11) st.sink st.marks) s o
   unfolding analyze_stmt after effect apply mark
   include-walked ready b =
-      same-walked tree index keys left st (of.include_is (texts_of tree) left tree st.at h b) ready refl refl (emitted-none ready.fits) ready.placed
+      same-walked tree index keys left st (of.include_is (texts_of tree) left tree st.at h b) ready refl refl emitted-none ready.placed
 
   pub barrier-walked : {s o : List ℕ} → Ready tree s st → get_or tree st.at 0 ≡ 10 → (a : After) {o' : List ℕ}
       → SaidOf (texts_of tree) (use_operands (scopes_of s (9 - left)) (marks_of tree (keys_in index keys) st.marks) (span_at tree a.next)) (vec (operand (texts_of tree)) tree (st.at + 1)) st.sink o a o'

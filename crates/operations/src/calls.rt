@@ -9,10 +9,9 @@ ghost use Rattle.tree.specs.Decode.{texts_of};
 ghost use Rattle.sema.specs.Exprs.{check_modifiers};
 ghost use Rattle.sema.specs.Operands.{use_operands};
 ghost use Rattle.sema.specs.Stmts.{params_say, widths_say, register_widths};
-ghost use Rattle.context.specs.Sink.{SinkFits};
 ghost use Rattle.context.specs.Given.{texts, scopes, functions};
 ghost use Rattle.operands.specs.Measured.{marks};
-ghost use Rattle.context.specs.View.{TextsAt, Placed, scopes_of, gates_of, functions_of, keys_in, marks_of};
+ghost use Rattle.context.specs.View.{Placed, scopes_of, gates_of, functions_of, keys_in, marks_of};
 ghost use Rattle.accepted.specs.Parts.{value_or};
 ghost use Rattle.lines.specs.Values.{secondary_of, NoteBelow};
 ghost use Rattle.promises.specs.Emitted.{Emitted};
@@ -84,7 +83,7 @@ fn check_param_count(
     decl: Option<(Note, Span)>,
     sink: Sink,
 ) -> Sink
-    requires { (call.name < length (texts sema)) × NoteBelow (length (texts sema)) decl × SinkFits sink }
+    requires { (call.name < length (texts sema)) × NoteBelow (length (texts sema)) decl }
     ensures { Emitted (texts sema.entry) (params_by call params (secondary_of decl)) sink out.old result out.new }
 {
     let got = call.params;
@@ -100,7 +99,7 @@ fn check_param_count(
         span,
         secondary: decl,
     };
-    lines::report(out, sink, sema.tree, sema.index, d)
+    lines::report(out, sink, sema.texts, d)
 }
 
 fn check_qubit_count(
@@ -111,7 +110,7 @@ fn check_qubit_count(
     decl: Option<(Note, Span)>,
     sink: Sink,
 ) -> Sink
-    requires { (call.name < length (texts sema)) × NoteBelow (length (texts sema)) decl × SinkFits sink }
+    requires { (call.name < length (texts sema)) × NoteBelow (length (texts sema)) decl }
     ensures { Emitted (texts sema.entry) (qubits_by call qubits (secondary_of decl)) sink out.old result out.new }
 {
     let got = call.args;
@@ -128,7 +127,7 @@ fn check_qubit_count(
         span,
         secondary: decl,
     };
-    lines::report(out, sink, sema.tree, sema.index, d)
+    lines::report(out, sink, sema.texts, d)
 }
 
 // Are there as many parameters and arguments as there should be? Asked by each caller, before the call is passed on: most fit.
@@ -148,7 +147,7 @@ fn report_arity(
     decl: Option<(Note, Span)>,
     sink: Sink,
 ) -> Sink
-    requires { (call.name < length (texts sema)) × NoteBelow (length (texts sema)) decl × SinkFits sink }
+    requires { (call.name < length (texts sema)) × NoteBelow (length (texts sema)) decl }
     ensures { Emitted (texts sema.entry) (arity_by call params qubits (secondary_of decl)) sink out.old result out.new }
 {
     let s = check_param_count(sema, out, call, params, decl, sink);
@@ -157,11 +156,15 @@ fn report_arity(
 
 // A gate that the program does not define: a standard gate, or none.
 fn check_standard(sema: SemaContext<'_>, out: &mut [u8], call: Call, sink: Sink) -> Sink
-    requires { (call.name < length (texts sema)) × SinkFits sink }
+    requires { call.name < length (texts sema) }
     ensures { Emitted (texts sema.entry) (standard_of (texts sema.entry) call) sink out.old result out.new }
 {
     let name = call.name;
-    let standard = gates::standard_gate_signature(name_of(sema.tree, sema.index, name));
+    let standard = gates::standard_gate_signature(name_of(
+        sema.texts.tree,
+        sema.texts.places,
+        name,
+    ));
     match standard {
         Some(gate) => {
             if fits_arity(call, gate.params, gate.qubits) {
@@ -174,8 +177,7 @@ fn check_standard(sema: SemaContext<'_>, out: &mut [u8], call: Call, sink: Sink)
             lines::report(
                 out,
                 sink,
-                sema.tree,
-                sema.index,
+                sema.texts,
                 lines::error(Message::GateNotDefined(name), span),
             )
         }
@@ -184,7 +186,7 @@ fn check_standard(sema: SemaContext<'_>, out: &mut [u8], call: Call, sink: Sink)
 
 // A definition of the program goes before a standard gate.
 pub fn check_signature(sema: SemaContext<'_>, out: &mut [u8], call: Call, sink: Sink) -> Sink
-    requires { (call.name < length (texts sema)) × SinkFits sink }
+    requires { call.name < length (texts sema) }
     ensures { Emitted (texts sema.entry) (signature_by (texts sema.entry) (gates_of sema.entry.scratch.now) call) sink out.old result out.new }
 {
     let name = call.name;
@@ -211,8 +213,8 @@ pub fn check_signature(sema: SemaContext<'_>, out: &mut [u8], call: Call, sink: 
 
 // The modifiers at `at`, and the parameters behind them.
 pub fn check_values(sema: SemaContext<'_>, out: &mut [u8], at: usize, sink: Sink) -> Sink
-    requires { SinkFits sink × IsOk (vec (modifier (texts sema)) sema.tree.now at) × IsOk (exprs (held (texts sema)) sema.tree.now (next_of (vec (modifier (texts sema)) sema.tree.now at))) }
-    ensures { Emitted (texts sema.entry) (check_modifiers (scopes sema.entry) (functions sema.entry) (value_or [] (vec (modifier (texts sema.entry)) sema.entry.tree.now at)) ++ params_say (plain_context (scopes sema.entry) (functions sema.entry)) (value_or no_expr (exprs (held (texts sema.entry)) sema.entry.tree.now (next_of (vec (modifier (texts sema.entry)) sema.entry.tree.now at))))) sink out.old result out.new }
+    requires { IsOk (vec (modifier (texts sema)) sema.texts.tree.now at) × IsOk (exprs (held (texts sema)) sema.texts.tree.now (next_of (vec (modifier (texts sema)) sema.texts.tree.now at))) }
+    ensures { Emitted (texts sema.entry) (check_modifiers (scopes sema.entry) (functions sema.entry) (value_or [] (vec (modifier (texts sema.entry)) sema.entry.texts.tree.now at)) ++ params_say (plain_context (scopes sema.entry) (functions sema.entry)) (value_or no_expr (exprs (held (texts sema.entry)) sema.entry.texts.tree.now (next_of (vec (modifier (texts sema.entry)) sema.entry.texts.tree.now at))))) sink out.old result out.new }
 {
     let a = typing::check_modifiers(sema, out, at, sink);
     let k = a.next;
@@ -224,8 +226,8 @@ pub fn check_values(sema: SemaContext<'_>, out: &mut [u8], at: usize, sink: Sink
 
 // The operands at `at`: each by itself, and their widths.
 pub fn check_args(m: Measured<'_, '_>, out: &mut [u8], at: usize, span: Span, sink: Sink) -> Sink
-    requires { SinkFits sink × IsOk (vec (operand (texts m.sema)) m.sema.tree.now at) }
-    ensures { Emitted (texts m.entry.sema) (use_operands (scopes m.entry.sema) (marks m.entry) span (value_or [] (vec (operand (texts m.entry.sema)) m.entry.sema.tree.now at)) ++ widths_say span (register_widths (scopes m.entry.sema) (value_or [] (vec (operand (texts m.entry.sema)) m.entry.sema.tree.now at)))) sink out.old result out.new }
+    requires { IsOk (vec (operand (texts m.sema)) m.sema.texts.tree.now at) }
+    ensures { Emitted (texts m.entry.sema) (use_operands (scopes m.entry.sema) (marks m.entry) span (value_or [] (vec (operand (texts m.entry.sema)) m.entry.sema.texts.tree.now at)) ++ widths_say span (register_widths (scopes m.entry.sema) (value_or [] (vec (operand (texts m.entry.sema)) m.entry.sema.texts.tree.now at)))) sink out.old result out.new }
 {
     let s = operands::use_operands(m, out, at, span, sink);
     operands::check_broadcasting(m.sema, out, at, span, s)

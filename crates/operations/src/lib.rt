@@ -10,12 +10,11 @@ ghost use Rattle.tree.specs.Read.{vec};
 ghost use Rattle.tree.specs.Stmts.{operand, stmt};
 ghost use Rattle.tree.specs.Decode.{texts_of};
 ghost use Rattle.sema.specs.Operands.{use_operands};
-ghost use Rattle.context.specs.Sink.{SinkFits};
 ghost use Rattle.context.specs.Given.{texts, scopes};
 ghost use Rattle.operands.specs.Measured.{marks};
 ghost use Rattle.context.specs.View.{Placed, scopes_of, keys_in, marks_of, span_at};
 ghost use Rattle.sheet.specs.Behind.{Blank};
-ghost use Rattle.sheet.specs.Sheet.{Indexed, KeysAdded};
+ghost use Rattle.sheet.specs.Sheet.{Indexed, Grown};
 ghost use Rattle.promises.specs.Went.{stmt_keys};
 ghost use Rattle.promises.specs.Typings.{SaidOf};
 ghost use Rattle.promises.specs.Walks.{state_of, Walkable, Ready, Passable, StmtKeyed, StmtWalked, StmtPassed};
@@ -24,7 +23,7 @@ use accepted::numbers::span_at;
 use accepted::operands::operand_at;
 use accepted::parts::skip_operands;
 use calls::{call_at, check_args, check_signature, check_values};
-use context::{After, Index, SemaContext, Sink};
+use context::{After, Index, SemaContext, Sink, Texts};
 use lines::{Expected, Message};
 use measures::{check_measure, mark_measured};
 use operands::Measured;
@@ -32,15 +31,14 @@ use operands::Measured;
 // An include says nothing and changes nothing.
 pub fn include(
     tree: &[u8],
-    index: &Index,
     scratch: &[u8],
     out: &mut [u8],
     left: usize,
     at: usize,
     sink: Sink,
 ) -> After
-    requires { Passable tree.now index.now scratch.now sink × IsOk (stmt (texts_of tree.now) left tree.now at) × (left ≤ 8) × (get_or tree.now at 0 ≡ 0) }
-    ensures { StmtPassed tree.now index.now left at sink scratch.now out.old result scratch.now out.new }
+    requires { Passable tree.now scratch.now × IsOk (stmt (texts_of tree.now) left tree.now at) × (left ≤ 8) × (get_or tree.now at 0 ≡ 0) }
+    ensures { StmtPassed tree.now left at sink scratch.now out.old result scratch.now out.new }
 {
     After {
         next: at + 11,
@@ -50,20 +48,20 @@ pub fn include(
 
 // The operands of a barrier or a delay. The statement's span stands behind them.
 fn use_targets(m: Measured<'_, '_>, out: &mut [u8], at: usize, sink: Sink) -> After
-    requires { SinkFits sink × IsOk (vec (operand (texts m.sema)) m.sema.tree.now at) × (next_of (vec (operand (texts m.sema)) m.sema.tree.now at) + 8 ≤ length m.sema.tree.now) }
-    ensures { SaidOf (texts m.entry.sema) (use_operands (scopes m.entry.sema) (marks m.entry) (span_at m.entry.sema.tree.now result.next)) (vec (operand (texts m.entry.sema)) m.entry.sema.tree.now at) sink out.old result out.new }
+    requires { IsOk (vec (operand (texts m.sema)) m.sema.texts.tree.now at) × (next_of (vec (operand (texts m.sema)) m.sema.texts.tree.now at) + 8 ≤ length m.sema.texts.tree.now) }
+    ensures { SaidOf (texts m.entry.sema) (use_operands (scopes m.entry.sema) (marks m.entry) (span_at m.entry.sema.texts.tree.now result.next)) (vec (operand (texts m.entry.sema)) m.entry.sema.texts.tree.now at) sink out.old result out.new }
 {
-    let next = skip_operands(m.sema.tree, at);
-    let span = span_at(m.sema.tree, next);
+    let next = skip_operands(m.sema.texts.tree, at);
+    let span = span_at(m.sema.texts.tree, next);
     let s = operands::use_operands(m, out, at, span, sink);
     After { next, sink: s }
 }
 
 // A barrier uses its operands.
-pub fn barrier(
-    tree: &[u8],
-    index: &Index,
-    scratch: &[u8],
+pub fn barrier<'a>(
+    texts: Texts<'a>,
+    index: &'a Index,
+    scratch: &'a [u8],
     out: &mut [u8],
     keys: usize,
     left: usize,
@@ -71,16 +69,20 @@ pub fn barrier(
     at: usize,
     sink: Sink,
 ) -> After
-    requires { Walkable tree.now index.now keys × Ready tree.now scratch.now (state_of at sink marks.now) × IsOk (stmt (texts_of tree.now) left tree.now at) × (left ≤ 8) × (get_or tree.now at 0 ≡ 10) }
-    ensures { StmtWalked tree.now index.now keys left (state_of at sink marks.now) scratch.now out.old (state_of result.next result.sink marks.now) scratch.now out.new }
+    requires { Walkable texts.tree.now index.now keys × Ready texts.tree.now scratch.now (state_of at sink marks.now) × IsOk (stmt (texts_of texts.tree.now) left texts.tree.now at) × (left ≤ 8) × (get_or texts.tree.now at 0 ≡ 10) }
+    ensures { StmtWalked texts.entry.tree.now index.now keys left (state_of at sink marks.now) scratch.now out.old (state_of result.next result.sink marks.now) scratch.now out.new }
 {
     let sema = SemaContext {
-        tree,
-        index,
+        texts,
         scratch,
         depth: 9 - left,
     };
-    let m = Measured { sema, keys, marks };
+    let m = Measured {
+        sema,
+        index,
+        keys,
+        marks,
+    };
     let a = use_targets(m, out, at + 1, sink);
     let said = a.sink;
     After {
@@ -90,10 +92,10 @@ pub fn barrier(
 }
 
 // A delay: a numeric duration, and the operands it uses.
-pub fn delay(
-    tree: &[u8],
-    index: &Index,
-    scratch: &[u8],
+pub fn delay<'a>(
+    texts: Texts<'a>,
+    index: &'a Index,
+    scratch: &'a [u8],
     out: &mut [u8],
     keys: usize,
     left: usize,
@@ -101,16 +103,20 @@ pub fn delay(
     at: usize,
     sink: Sink,
 ) -> After
-    requires { Walkable tree.now index.now keys × Ready tree.now scratch.now (state_of at sink marks.now) × IsOk (stmt (texts_of tree.now) left tree.now at) × (left ≤ 8) × (get_or tree.now at 0 ≡ 11) }
-    ensures { StmtWalked tree.now index.now keys left (state_of at sink marks.now) scratch.now out.old (state_of result.next result.sink marks.now) scratch.now out.new }
+    requires { Walkable texts.tree.now index.now keys × Ready texts.tree.now scratch.now (state_of at sink marks.now) × IsOk (stmt (texts_of texts.tree.now) left texts.tree.now at) × (left ≤ 8) × (get_or texts.tree.now at 0 ≡ 11) }
+    ensures { StmtWalked texts.entry.tree.now index.now keys left (state_of at sink marks.now) scratch.now out.old (state_of result.next result.sink marks.now) scratch.now out.new }
 {
     let sema = SemaContext {
-        tree,
-        index,
+        texts,
         scratch,
         depth: 9 - left,
     };
-    let m = Measured { sema, keys, marks };
+    let m = Measured {
+        sema,
+        index,
+        keys,
+        marks,
+    };
     let a = typing::require_numeric(sema, out, at + 1, Message::DelayNumeric, sink);
     let checked = a.sink;
     let b = use_targets(m, out, a.next, checked);
@@ -122,10 +128,10 @@ pub fn delay(
 }
 
 // A reset clears the marks of its operand.
-pub fn reset(
-    tree: &[u8],
-    index: &Index,
-    scratch: &[u8],
+pub fn reset<'a>(
+    texts: Texts<'a>,
+    index: &'a Index,
+    scratch: &'a [u8],
     out: &mut [u8],
     keys: usize,
     left: usize,
@@ -133,17 +139,16 @@ pub fn reset(
     at: usize,
     sink: Sink,
 ) -> After
-    requires { Walkable tree.now index.now keys × Ready tree.now scratch.now (state_of at sink marks.old) × IsOk (stmt (texts_of tree.now) left tree.now at) × (left ≤ 8) × (get_or tree.now at 0 ≡ 9) }
-    ensures walked { StmtWalked tree.now index.now keys left (state_of at sink marks.old) scratch.now out.old (state_of result.next result.sink marks.new) scratch.now out.new }
+    requires { Walkable texts.tree.now index.now keys × Ready texts.tree.now scratch.now (state_of at sink marks.old) × IsOk (stmt (texts_of texts.tree.now) left texts.tree.now at) × (left ≤ 8) × (get_or texts.tree.now at 0 ≡ 9) }
+    ensures walked { StmtWalked texts.entry.tree.now index.now keys left (state_of at sink marks.old) scratch.now out.old (state_of result.next result.sink marks.new) scratch.now out.new }
     ensures behind { (n : ℕ) → keys ≤ n → Blank n marks.old → Blank n marks.new }
 {
     let sema = SemaContext {
-        tree,
-        index,
+        texts,
         scratch,
         depth: 9 - left,
     };
-    let op = operand_at(tree, at + 1);
+    let op = operand_at(texts.tree, at + 1);
     let said = operands::check_operand(sema, out, op.value, Expected::Qubit, sink);
     sheet::clear(marks, index, keys, op.value);
     After {
@@ -152,7 +157,7 @@ pub fn reset(
     }
 }
 
-// Puts the keys of the measure statement at `at` into the index: how many there are then, or OVER.
+// Puts the keys of the measure statement at `at` into the index: how many there are then, or None where they are too many.
 pub fn add_keys(
     tree: &[u8],
     index: &mut Index,
@@ -160,9 +165,9 @@ pub fn add_keys(
     keys: usize,
     left: usize,
     at: usize,
-) -> usize
+) -> Option<usize>
     requires { IsOk (stmt (texts_of tree.now) left tree.now at) × (left ≤ 8) × (length (texts_of tree.now) ≤ 256) × (65536 ≤ length scratch.now) × Indexed index.old keys × (get_or tree.now at 0 ≡ 8) }
-    ensures added { KeysAdded index.old index.new result (stmt_keys (stmt (texts_of tree.now) left tree.now at) (scopes_of scratch.now (9 - left)) (keys_in index.old keys)) }
+    ensures added { Grown index.new result (stmt_keys (stmt (texts_of tree.now) left tree.now at) (scopes_of scratch.now (9 - left)) (keys_in index.old keys)) }
     ensures index { length index.new ≡ length index.old }
 {
     let op = operand_at(tree, at + 1).value;
@@ -171,10 +176,10 @@ pub fn add_keys(
 }
 
 // A measurement: its operands, and the marks that it sets.
-pub fn measure(
-    tree: &[u8],
-    index: &Index,
-    scratch: &[u8],
+pub fn measure<'a>(
+    texts: Texts<'a>,
+    index: &'a Index,
+    scratch: &'a [u8],
     out: &mut [u8],
     keys: usize,
     left: usize,
@@ -182,20 +187,20 @@ pub fn measure(
     at: usize,
     sink: Sink,
 ) -> After
-    requires walkable { Walkable tree.now index.now keys × Ready tree.now scratch.now (state_of at sink marks.old) × IsOk (stmt (texts_of tree.now) left tree.now at) × (left ≤ 8) × (get_or tree.now at 0 ≡ 8) }
-    requires stmt_keyed { StmtKeyed (keys_in index.now keys) (scopes_of scratch.now (9 - left)) (stmt (texts_of tree.now) left tree.now at) }
-    ensures walked { StmtWalked tree.now index.now keys left (state_of at sink marks.old) scratch.now out.old (state_of result.next result.sink marks.new) scratch.now out.new }
+    requires walkable { Walkable texts.tree.now index.now keys × Ready texts.tree.now scratch.now (state_of at sink marks.old) × IsOk (stmt (texts_of texts.tree.now) left texts.tree.now at) × (left ≤ 8) × (get_or texts.tree.now at 0 ≡ 8) }
+    requires stmt_keyed { StmtKeyed (keys_in index.now keys) (scopes_of scratch.now (9 - left)) (stmt (texts_of texts.tree.now) left texts.tree.now at) }
+    ensures walked { StmtWalked texts.entry.tree.now index.now keys left (state_of at sink marks.old) scratch.now out.old (state_of result.next result.sink marks.new) scratch.now out.new }
     ensures behind { (n : ℕ) → keys ≤ n → Blank n marks.old → Blank n marks.new }
 {
     let sema = SemaContext {
-        tree,
-        index,
+        texts,
         scratch,
         depth: 9 - left,
     };
-    let qubit = operand_at(tree, at + 1);
+    let qubit = operand_at(texts.tree, at + 1);
     let m = Measured {
         sema,
+        index,
         keys,
         marks: &*marks,
     };
@@ -209,10 +214,10 @@ pub fn measure(
 }
 
 // A gate call: its arity, its modifiers and parameters, and its operands.
-pub fn gate_call(
-    tree: &[u8],
-    index: &Index,
-    scratch: &[u8],
+pub fn gate_call<'a>(
+    texts: Texts<'a>,
+    index: &'a Index,
+    scratch: &'a [u8],
     out: &mut [u8],
     keys: usize,
     left: usize,
@@ -220,17 +225,21 @@ pub fn gate_call(
     at: usize,
     sink: Sink,
 ) -> After
-    requires { Walkable tree.now index.now keys × Ready tree.now scratch.now (state_of at sink marks.now) × IsOk (stmt (texts_of tree.now) left tree.now at) × (left ≤ 8) × (get_or tree.now at 0 ≡ 5) }
-    ensures { StmtWalked tree.now index.now keys left (state_of at sink marks.now) scratch.now out.old (state_of result.next result.sink marks.now) scratch.now out.new }
+    requires { Walkable texts.tree.now index.now keys × Ready texts.tree.now scratch.now (state_of at sink marks.now) × IsOk (stmt (texts_of texts.tree.now) left texts.tree.now at) × (left ≤ 8) × (get_or texts.tree.now at 0 ≡ 5) }
+    ensures { StmtWalked texts.entry.tree.now index.now keys left (state_of at sink marks.now) scratch.now out.old (state_of result.next result.sink marks.now) scratch.now out.new }
 {
     let sema = SemaContext {
-        tree,
-        index,
+        texts,
         scratch,
         depth: 9 - left,
     };
-    let m = Measured { sema, keys, marks };
-    let call = call_at(tree, at, left);
+    let m = Measured {
+        sema,
+        index,
+        keys,
+        marks,
+    };
+    let call = call_at(texts.tree, at, left);
     let named = check_signature(sema, out, call, sink);
     let checked = check_values(sema, out, at + 3, named);
     let said = check_args(m, out, call.args_at, call.span, checked);

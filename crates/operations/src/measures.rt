@@ -9,11 +9,10 @@ ghost use Rattle.sema.specs.Messages.{warning, already_measured};
 ghost use Rattle.sema.specs.Marks.{mark_measured, apply, lookup_measured};
 ghost use Rattle.sema.specs.Operands.{is_some, unless};
 ghost use Rattle.sema.specs.Stmts.{measure_target, measure_says};
-ghost use Rattle.context.specs.Sink.{SinkFits};
 ghost use Rattle.context.specs.Values.{number_of, operand_of};
 ghost use Rattle.context.specs.Given.{texts, scopes};
 ghost use Rattle.operands.specs.Measured.{marks};
-ghost use Rattle.context.specs.View.{TextsAt, PlaceOk, Placed, scopes_of, keys_in, marks_of, measure_span, span_at, context_of};
+ghost use Rattle.context.specs.View.{PlaceOk, Placed, scopes_of, keys_in, marks_of, measure_span, span_at, context_of};
 ghost use Rattle.sheet.specs.Sheet.{Indexed, Covers};
 ghost use Rattle.sheet.specs.Behind.{Blank};
 ghost use Rattle.promises.specs.Emitted.{Emitted};
@@ -56,17 +55,16 @@ fn warn_measured(
     span: Span,
     sink: Sink,
 ) -> Sink
-    requires { (qubit.name < length (texts m.sema)) × SinkFits sink }
+    requires { qubit.name < length (texts m.sema) }
     ensures { Emitted (texts m.entry.sema) (unless (not (is_some (lookup_measured (marks m.entry) qubit.name (number_of qubit.index)))) (warning (already_measured (operand_of qubit)) span)) sink out.old result out.new }
 {
-    if sheet::lookup(m.marks, m.sema.index, m.keys, qubit.name, qubit.index) == 0 {
+    if sheet::lookup(m.marks, m.index, m.keys, qubit.name, qubit.index) == 0 {
         return sink;
     }
     lines::report(
         out,
         sink,
-        m.sema.tree,
-        m.sema.index,
+        m.sema.texts,
         lines::warning(Message::AlreadyMeasured(qubit), span),
     )
 }
@@ -80,7 +78,7 @@ fn check_target(
     span: Span,
     sink: Sink,
 ) -> Sink
-    requires { (qubit.name < length (texts sema)) × (target.name < length (texts sema)) × SinkFits sink }
+    requires { (qubit.name < length (texts sema)) × (target.name < length (texts sema)) }
     ensures { Emitted (texts sema.entry) (measure_target (scopes sema.entry) (operand_of qubit) span (some (operand_of target))) sink out.old result out.new }
 {
     let s = operands::check_operand(sema, out, target, Expected::Bit, sink);
@@ -95,16 +93,16 @@ fn check_target_at(
     at: usize,
     sink: Sink,
 ) -> After
-    requires { (qubit.name < length (texts sema)) × SinkFits sink × IsOk (option (operand (texts sema)) sema.tree.now at) × (next_of (option (operand (texts sema)) sema.tree.now at) + 8 ≤ length sema.tree.now) }
-    ensures { SaidOf (texts sema.entry) (measure_target (scopes sema.entry) (operand_of qubit) (span_at sema.entry.tree.now result.next)) (option (operand (texts sema.entry)) sema.entry.tree.now at) sink out.old result out.new }
+    requires { (qubit.name < length (texts sema)) × IsOk (option (operand (texts sema)) sema.texts.tree.now at) × (next_of (option (operand (texts sema)) sema.texts.tree.now at) + 8 ≤ length sema.texts.tree.now) }
+    ensures { SaidOf (texts sema.entry) (measure_target (scopes sema.entry) (operand_of qubit) (span_at sema.entry.texts.tree.now result.next)) (option (operand (texts sema.entry)) sema.entry.texts.tree.now at) sink out.old result out.new }
 {
-    if sema.tree[at] == 0 {
+    if sema.texts.tree[at] == 0 {
         return After { next: at + 1, sink };
     }
-    let t = operand_at(sema.tree, at + 1);
+    let t = operand_at(sema.texts.tree, at + 1);
     let target = t.value;
     let next = t.next;
-    let span = span_at(sema.tree, next);
+    let span = span_at(sema.texts.tree, next);
     let s = check_target(sema, out, qubit, target, span, sink);
     After { next, sink: s }
 }
@@ -117,13 +115,13 @@ pub fn check_measure(
     at: usize,
     sink: Sink,
 ) -> After
-    requires { (qubit.name < length (texts m.sema)) × SinkFits sink × IsOk (option (operand (texts m.sema)) m.sema.tree.now at) × (next_of (option (operand (texts m.sema)) m.sema.tree.now at) + 8 ≤ length m.sema.tree.now) }
-    ensures { SaidOf (texts m.entry.sema) (λ target. measure_says (context_of m.entry.sema.tree.now (keys_in m.entry.sema.index.now m.entry.keys) m.entry.sema.scratch.now m.entry.sema.depth m.entry.marks.now) (operand_of qubit) target (span_at m.entry.sema.tree.now result.next)) (option (operand (texts m.entry.sema)) m.entry.sema.tree.now at) sink out.old result out.new }
+    requires { (qubit.name < length (texts m.sema)) × IsOk (option (operand (texts m.sema)) m.sema.texts.tree.now at) × (next_of (option (operand (texts m.sema)) m.sema.texts.tree.now at) + 8 ≤ length m.sema.texts.tree.now) }
+    ensures { SaidOf (texts m.entry.sema) (λ target. measure_says (context_of m.entry.sema.texts.tree.now (keys_in m.entry.index.now m.entry.keys) m.entry.sema.scratch.now m.entry.sema.depth m.entry.marks.now) (operand_of qubit) target (span_at m.entry.sema.texts.tree.now result.next)) (option (operand (texts m.entry.sema)) m.entry.sema.texts.tree.now at) sink out.old result out.new }
 {
     let s = operands::check_operand(m.sema, out, qubit, Expected::Qubit, sink);
     let a = check_target_at(m.sema, out, qubit, at, s);
     let checked = a.sink;
-    let span = span_at(m.sema.tree, a.next);
+    let span = span_at(m.sema.texts.tree, a.next);
     let said = warn_measured(m, out, qubit, span, checked);
     After {
         next: a.next,

@@ -6,7 +6,7 @@ use Rattle.ast.specs.Tree.{Text}
 use Rattle.sema.specs.Messages.{Diagnostic}
 use Rattle.sema.specs.Operands.{unless}
 use Rattle.context.specs.declared.Sink.{Sink}
-use Rattle.context.specs.Sink.{written_of, emit, SinkFits}
+use Rattle.context.specs.Sink.{written_of, emit}
 use Rattle.lines.specs.declared.Message.{Message}
 use Rattle.lines.specs.declared.Note.{Note}
 use Rattle.lines.specs.declared.Diagnostic.{Diagnostic as DiagnosticValue}
@@ -16,7 +16,6 @@ use Rattle.lines.specs.EmitLaws.{emit-append, emit-none, emit_one_lem}
 -- from the sink s over the buffer o the sink r over o': the diagnostics ds were said
 pub record Emitted (t : List Text) (ds : List Diagnostic) (s : Sink) (o : List ℕ) (r : Sink) (o' : List ℕ) : Type 0 where
   pub says : written_of r o' ≡ emit t ds (written_of s o)
-  pub fits : SinkFits r
 
 -- what a report asks of an error, and of one with a note
 module _ {n : ℕ} {d : DiagnosticValue} {m : Message} {sp : Span} where
@@ -28,12 +27,12 @@ module _ {n : ℕ} {d : DiagnosticValue} {m : Message} {sp : Span} where
 
 module _ {t : List Text} {s : Sink} {o : List ℕ} where
   -- nothing said
-  pub emitted-none : SinkFits s → Emitted t [] s o s o
-  emitted-none f = record { says = sym (emit-none t (written_of s o)); fits = f }
+  pub emitted-none : Emitted t [] s o s o
+  emitted-none = record { says = sym (emit-none t (written_of s o)) }
 
   -- one report
   pub emitted-one : {d : DiagnosticValue} {r : Sink} {o' : List ℕ} → Reported t d s o r o' → Emitted t (diagnostic_of d ∷ []) s o r o'
-  emitted-one {d = d} p = record { says = p.emits ∙ sym (emit_one_lem t (diagnostic_of d) (written_of s o)); fits = p.fits }
+  emitted-one {d = d} p = record { says = p.emits ∙ sym (emit_one_lem t (diagnostic_of d) (written_of s o)) }
 
   pub emitted_report : {d e : DiagnosticValue} {r : Sink} {o' : List ℕ} → d ≡ e → Reported t d s o r o' → Emitted t (diagnostic_of e ∷ []) s o r o'
   emitted_report q p = emitted-one (rw q at p)
@@ -42,15 +41,15 @@ module _ {t : List Text} {s : Sink} {o : List ℕ} where
     -- one after the other
     pub emitted_then : {es : List Diagnostic} {q : Sink} {o'' : List ℕ} → Emitted t es r o' q o'' → Emitted t (ds ++ es) s o q o''
     emitted_then {es = es} b =
-        record { says = b.says ∙ ap (emit t es) a.says ∙ sym (emit-append t ds es (written_of s o)); fits = b.fits }
+        record { says = b.says ∙ ap (emit t es) a.says ∙ sym (emit-append t ds es (written_of s o)) }
 
     -- the same under another name
     pub emitted_as : {es : List Diagnostic} → ds ≡ es → Emitted t es s o r o'
     emitted_as e = subst (λ x. Emitted t x s o r o') e a
 
   -- a test that says nothing where it holds
-  pub unless_holds : (b : Bool) (d : Diagnostic) → b ≡ true → SinkFits s → Emitted t (unless b d) s o s o
-  unless_holds b d e f = rw e (emitted-none f)
+  pub unless_holds : (b : Bool) (d : Diagnostic) → b ≡ true → Emitted t (unless b d) s o s o
+  unless_holds b d e = rw e emitted-none
 
   pub unless_fails : (b : Bool) {v : DiagnosticValue} {r : Sink} {o' : List ℕ} → b ≡ false → Reported t v s o r o' → Emitted t (unless b (diagnostic_of v)) s o r o'
   unless_fails b e p = rw e (emitted-one p)

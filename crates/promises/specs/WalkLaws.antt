@@ -49,5 +49,5 @@ module _ (tree index : List ℕ) (keys left : ℕ) (st : State) {S : Stmt} {end 
       (record { at = a; goes = g; emitted = m; below = λ d l. refl; same_length = refl; same_rest = refl; few = h.few; placed = p })
 
 -- marks that are placed make the state of a statement that leaves them ready
-pub passed-ready : {tree index s : List ℕ} {at : ℕ} {sink : Sink} {marks : List ℕ} → Passable tree index s sink → Placed tree marks → Ready tree s (state_of at sink marks)
-passed-ready p placed = record { room = p.room; few = p.few; placed = placed; fits = p.fits }
+pub passed-ready : {tree s : List ℕ} {at : ℕ} {sink : Sink} {marks : List ℕ} → Passable tree s → Placed tree marks → Ready tree s (state_of at sink marks)
+passed-ready p placed = record { room = p.room; few = p.few; placed = placed }

@@ -14,8 +14,7 @@ use Rattle.sema.specs.Stmts.{SemaContext, analyze_stmt, analyze_stmts}
 use Rattle.context.specs.declared.After.{After}
 use Rattle.context.specs.declared.Sink.{Sink}
 use Rattle.context.specs.declared.State.{State}
-use Rattle.context.specs.Sink.{SinkFits}
-use Rattle.context.specs.View.{TextsAt, Placed, keys_in, scopes_of, functions_of, context_of}
+use Rattle.context.specs.View.{Placed, keys_in, scopes_of, functions_of, context_of}
 use Rattle.tables.specs.Tables.{tables_end, FewParams}
 use Rattle.sheet.specs.Sheet.{Indexed, Distinct}
 use Rattle.promises.specs.Emitted.{Emitted}
@@ -27,7 +26,6 @@ state_of at sink marks = record { at = at; sink = sink; keys = 0; marks = marks 
 -- what holds before every statement of a walk, whatever the scratch, the listing and the marks
 pub record Walkable (tree index : List ℕ) (keys : ℕ) : Type 0 where
   pub small : length tree ≤ file_limit
-  pub texts : TextsAt tree index
   pub indexed : Indexed index keys
   pub distinct : Distinct (keys_in index keys)
 
@@ -36,15 +34,12 @@ pub record Ready (tree scratch : List ℕ) (st : State) : Type 0 where
   pub room : 65536 ≤ length scratch
   pub few : FewParams (functions_of scratch)
   pub placed : Placed tree st.marks
-  pub fits : SinkFits st.sink
 
 -- what a statement asks that leaves the marks, whatever they are
-pub record Passable (tree index scratch : List ℕ) (sink : Sink) : Type 0 where
+pub record Passable (tree scratch : List ℕ) : Type 0 where
   pub small : length tree ≤ file_limit
-  pub texts : TextsAt tree index
   pub room : 65536 ≤ length scratch
   pub few : FewParams (functions_of scratch)
-  pub fits : SinkFits sink
 
 -- every key that the statement that was read sets is in the index
 pub record StmtKeyed (ks : List Key) (ss : Symbols) (x : Ans Stmt) : Type 0 where
@@ -86,6 +81,6 @@ BodyWalked tree index keys left st s o r s' o' =
     (next_of (body (stmt (texts_of tree) left) tree st.at)) st s o r s' o'
 
 -- So of one statement that leaves the marks, whatever they and the keys are.
-abbrev pub StmtPassed : List ℕ → List ℕ → ℕ → ℕ → Sink → List ℕ → List ℕ → After → List ℕ → List ℕ → Type 0
-StmtPassed tree index left at sink s o r s' o' =
-    (keys : ℕ) (marks : List ℕ) → Placed tree marks → StmtWalked tree index keys left (state_of at sink marks) s o (state_of r.next r.sink marks) s' o'
+abbrev pub StmtPassed : List ℕ → ℕ → ℕ → Sink → List ℕ → List ℕ → After → List ℕ → List ℕ → Type 0
+StmtPassed tree left at sink s o r s' o' =
+    (index : List ℕ) (keys : ℕ) (marks : List ℕ) → Placed tree marks → StmtWalked tree index keys left (state_of at sink marks) s o (state_of r.next r.sink marks) s' o'

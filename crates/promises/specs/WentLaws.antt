@@ -1,5 +1,5 @@
 -- Laws of an index that grows: what was walked over with fewer keys was so with more, and what a later part asks. Assumes nothing.
-use Rattle.std.specs.Prelude.{ℕ, ◌≤◌, ◌≡◌, List, [], ◌++◌, length}
+use Rattle.std.specs.Prelude.{ℕ, ◌≤◌, ◌≡◌, List, [], ◌++◌, length, Some, None}
 use Rattle.std.proofs.Common.{sym, ap, ◌∙◌, append-nil, arith, length-append}
 use Rattle.ast.specs.Tree.{Text, Stmt, Stmts, Else}
 use Rattle.tree.specs.Ans.{Ans, ok, refused, given}
@@ -11,11 +11,10 @@ use Rattle.sema.proofs.KeyCount.{grown-stmt, grown_stmts, grown_else}
 use Rattle.sema.specs.LawsKeys.{Grown}
 use Rattle.context.specs.declared.State.{State}
 use Rattle.context.specs.View.{keys_in, marks_of}
-use Rattle.sheet.specs.Sheet.{Distinct, KeysAdded}
-use Rattle.sheet.specs.Table.{length-keys, added_full}
+use Rattle.sheet.specs.Sheet.{Distinct}
+use Rattle.sheet.specs.Table.{length-keys}
 use Rattle.sheet.specs.Different.{distinct-said, distinct_tested}
 use Rattle.sheet.specs.Behind.{Blank, blank-more, marks-more}
-use Rattle.context.specs.Kept.{texts-kept}
 use Rattle.promises.specs.Walks.{Walkable, Walk, Walked}
 use Rattle.promises.specs.Went.{stmt_keys, body_keys, else_keys, Went}
 
@@ -81,46 +80,39 @@ pub blank-keys : {n : ℕ} {sheet : List ℕ} (i : List ℕ) → Blank n sheet �
 blank-keys {n} i b = rw (length-keys i 0 n) b
 
 -- what later parts ask of the index
-pub walkable_longer : {tree i i' : List ℕ} {n m : ℕ} {ls : List Key} → Walkable tree i n → Longer (keys_in i n) ls → KeysAdded i i' m ls → length i' ≡ length i → m ≤ key_limit → Walkable tree i' m
+pub walkable_longer : {tree i i' : List ℕ} {n m : ℕ} {ls : List Key} → Walkable tree i n → Longer (keys_in i n) ls → keys_in i' m ≡ ls → length i' ≡ length i → m ≤ key_limit → Walkable tree i' m
 walkable_longer {tree} {i} {i'} w g a l f =
-    let z : length i' ≡ 768 = l ∙ w.texts.size in
+    let z : length i' ≡ 512 = l ∙ w.indexed.size in
     record {
       small = w.small;
-      texts = texts-kept tree i i' w.texts a.texts z;
       indexed = record { size = z; few = f };
-      distinct = rw (a.keys f) (g.distinct w.distinct);
+      distinct = rw a (g.distinct w.distinct);
     }
 
 -- too many keys stay too many: the walk has stopped
-pub went_over : {i i' : List ℕ} {ks : List Key} {s s' : List ℕ} {r : State} {W : Type 0} → Went i i' ks s s' r W → r.keys ≡ 257 → (ls : List Key) → length ks ≤ length ls → (X : Type 0) → Went i i' ls s s' r X
-went_over {i} {i'} {ks} {r = r} w e ls l X =
+pub went_over : {i i' : List ℕ} {ks : List Key} {s s' : List ℕ} {W : State → Type 0} → Went i i' ks s s' None W → (ls : List Key) → length ks ≤ length ls → (X : State → Type 0) → Went i i' ls s s' None X
+went_over {i} {i'} {ks} w ls l X =
     record {
-      added = rw e (added_full i i' i' r.keys ks w.added e ls l);
+      grown = omega (arith, w.grown);
       index-length = w.index-length;
       scratch-length = w.scratch-length;
       scratch-rest = w.scratch-rest;
-      walked = λ m. absurd (omega arith);
-      behind = λ m. absurd (omega arith);
+      reached = tt;
     }
 
 -- what else holds of the state r, where the walk did not stop
-pub went_as : {i i' : List ℕ} {ks : List Key} {s s' : List ℕ} {w : State} {W : Type 0} → Went i i' ks s s' w W → (r : State) → r.keys ≡ w.keys → {X : Type 0} → (w.keys ≤ key_limit → W → X) → (w.keys ≤ key_limit → Blank w.keys w.marks → Blank w.keys r.marks) → Went i i' ks s s' r X
+pub went_as : {i i' : List ℕ} {ks : List Key} {s s' : List ℕ} {w : State} {W : State → Type 0} → Went i i' ks s s' (Some w) W → (r : State) → r.keys ≡ w.keys → {X : State → Type 0} → (W w → X r) → (Blank w.keys w.marks → Blank w.keys r.marks) → Went i i' ks s s' (Some r) X
 went_as g r f walks blank =
     record {
-      added = rw f g.added;
+      grown = rw f g.grown;
       index-length = g.index-length;
       scratch-length = g.scratch-length;
       scratch-rest = g.scratch-rest;
-      walked = λ m. let n = rw f at m in walks n (g.walked n);
-      behind = λ m. let n = rw f at m in rw f (blank n (g.behind n));
+      reached = (walks g.reached.0, rw f (blank g.reached.1));
     }
 
 -- a sheet that was blank behind the keys is so behind more
-pub blank_longer : {i i' : List ℕ} {n m : ℕ} {ls : List Key} {sheet : List ℕ} → Longer (keys_in i n) ls → KeysAdded i i' m ls → m ≤ key_limit → Blank n sheet → Blank m sheet
-blank_longer {i} {i'} {n} {m} {ls} g a f b =
-    let e : length (keys_in i' m) ≡ length ls = ap length (a.keys f) in
+pub blank_longer : (i i' : List ℕ) {n m : ℕ} {ls : List Key} {sheet : List ℕ} → Longer (keys_in i n) ls → keys_in i' m ≡ ls → Blank n sheet → Blank m sheet
+blank_longer i i' {n} {m} {ls} g a b =
+    let e : length (keys_in i' m) ≡ length ls = ap length a in
     blank-more (omega (arith, length-keys i 0 n, length-keys i' 0 m, longer_length g, e)) b
-
--- a count that is not one too many is no more than the limit
-pub within : {i i' : List ℕ} {count : ℕ} {ks : List Key} → KeysAdded i i' count ks → (count ≡ 257 → ⊥) → count ≤ key_limit
-within a n = omega (arith, a.counted)

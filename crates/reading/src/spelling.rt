@@ -1,7 +1,7 @@
 // How names and float literals are spelled, and the checksums by which texts are told apart.
 #![tactic(auto, unfolding(tree::specs::Texts::letter, tree::specs::Texts::digit, tree::specs::Texts::digits, tree::specs::Texts::fraction, tree::specs::Texts::is_name, tree::specs::Texts::is_float, crate::specs::Section::kind_of, crate::specs::Section::kind_by), using(crate::proofs::Spelled::spelled))]
 
-ghost use Rattle.std.specs.Prelude.{◌≡◌, ◌<◌, ◌^◌, ◌&&◌, ◌||◌, not, position};
+ghost use Rattle.std.specs.Prelude.{◌≡◌, ℕ, ◌<◌, ◌^◌, Bool, not, position};
 ghost use Rattle.tree.specs.Texts.{letter, digit, every, digits, fraction, is_name, is_float};
 ghost use Rattle.reading.specs.Section.{kind_of, mix, checksum as sum_of};
 
@@ -22,30 +22,25 @@ fn is_letter(c: u8) -> bool
     c.is_ascii_alphabetic() || c == b'_'
 }
 
-fn allows(letters: bool, c: u8) -> bool
-    ensures { result ≡ ((letters && letter c) || digit c) }
+// Whether every byte is allowed. Each is looked at, so that many are at once.
+fn all_of<F: Fn(u8) -> bool>(x: &[u8], allowed: F) -> bool
+    requires { F.IsAlwaysCallable allowed }
+    ensures { (p : ℕ → Bool) → ((c : ℕ) (b : Bool) → F.post allowed c b → b ≡ p c) → result ≡ every p x.now }
 {
-    (letters && is_letter(c)) || c.is_ascii_digit()
-}
-
-// Digits alone; with `letters`, letters and underscores too. Every byte is looked at, so that many are at once.
-fn all_of(x: &[u8], letters: bool) -> bool
-    ensures { result ≡ every (λ c. (letters && letter c) || digit c) x.now }
-{
-    x.iter().fold(true, |good, c| good & allows(letters, *c))
+    x.iter().fold(true, |good, c| good & allowed(*c))
 }
 
 fn is_digits(x: &[u8]) -> bool
     ensures { result ≡ digits x.now }
 {
-    !x.is_empty() && all_of(x, false)
+    !x.is_empty() && all_of(x, |c| c.is_ascii_digit())
 }
 
 fn is_name(x: &[u8]) -> bool
     ensures { result ≡ is_name x.now }
 {
     match x {
-        [first, ..] => is_letter(*first) && all_of(x, true),
+        [first, ..] => is_letter(*first) && all_of(x, |c| is_letter(c) || c.is_ascii_digit()),
         [] => false,
     }
 }

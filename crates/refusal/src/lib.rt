@@ -50,6 +50,7 @@ impl Refusal {
 impl From<Refusal> for u8 {
     ghost from_gives = { λ refusal number. number ≡ number_of refusal };
 
+    // By `as`, since a match would say the order of the reasons once more.
     fn from(refusal: Refusal) -> u8 {
         refusal as u8 + 1
     }

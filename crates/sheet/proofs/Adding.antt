@@ -14,9 +14,9 @@ use Rattle.sema.specs.Keys.{same_key, has_key, add_key, add_indices, add_range}
 use Rattle.context.specs.View.{key_by, key_at, keys_from, keys_in}
 use Rattle.std.specs.Prelude.{Option as Maybe, Some, None, unwrap_or}
 use Rattle.std.specs.Option.{is_some}
-use Rattle.sheet.specs.Sheet.{Indexed, position, FoundAt, KeysAdded, Grown}
+use Rattle.sheet.specs.Sheet.{Indexed, position, FoundAt, Grown}
 use Rattle.sheet.specs.Places.{by_test, has_here, has_there, position-has, position-none}
-use Rattle.sheet.specs.Table.{none-added, length-keys, add-there, add-new, length-new, AtLeast, more-long, keep-indices, keys-stored, added_full}
+use Rattle.sheet.specs.Table.{length-keys, add-there, add-new, length-new, AtLeast, more-long, keep-indices, keys-stored}
 
 -- one key
 module _ (index : List ℕ) (count : ℕ) (k : Key) (r : Maybe ℕ) (t : Indexed index count) (e : FoundAt r count (position (keys_in index count) k)) where
@@ -31,34 +31,22 @@ module _ (index : List ℕ) (count : ℕ) (k : Key) (r : Maybe ℕ) (t : Indexed
   new None f h = position-none (keys_in index count) k (omega (arith, lengths, f))
   new (Some n) f h = absurd (false≢true (sym h))
 
-  pub added-there : (b : Bool) → b ≡ is_some r → b ≡ true → Grown index index (Some count) (add_key (keys_in index count) k)
+  pub added-there : (b : Bool) → b ≡ is_some r → b ≡ true → Grown index (Some count) (add_key (keys_in index count) k)
   added-there b f h =
       let a = add-there (keys_in index count) k (there r e (sym f ∙ h)) in
-      (rw a (record { counted = omega (arith, lengths, t.few); keys = λ f. refl; texts = refl }), t.few)
+      (rw a refl, t.few)
 
   module _ (b : Bool) (s : b ≡ is_some r) (h : b ≡ false) where
     added : length (add_key (keys_in index count) k) ≡ suc count
     added = length-new (keys_in index count) k (new r e (sym s ∙ h)) ∙ ap suc lengths
 
-    pub added-over : count ≡ 256 → KeysAdded index index 257 (add_key (keys_in index count) k)
-    added-over f =
-        record {
-          counted = omega (arith, added);
-          keys = λ g. absurd (omega arith);
-          texts = refl;
-        }
+    pub added-over : count ≡ 256 → 256 < length (add_key (keys_in index count) k)
+    added-over f = omega (arith, added)
 
-    pub added_new : (head i : ℕ) → (count ≡ 256 → ⊥) → key_by head i ≡ k → Grown index (set (set index (256 + 2 * count) head) (256 + 2 * count + 1) i) (Some (count + 1)) (add_key (keys_in index count) k)
+    pub added_new : (head i : ℕ) → (count ≡ 256 → ⊥) → key_by head i ≡ k → Grown (set (set index (2 * count) head) (2 * count + 1) i) (Some (count + 1)) (add_key (keys_in index count) k)
     added_new head i f g =
         let l : count < 256 = omega (arith, t.few) in
-        let at = 256 + 2 * count in (
-          record {
-            counted = omega (arith, added);
-            keys = λ u. rw (add-one count, add-new (keys_in index count) k (new r e (sym s ∙ h)), ← g) (keys-stored index count head i t.size l);
-            texts = take-set-le 256 (set index at head) (at + 1) i (omega arith) ∙ take-set-le 256 index at head (omega arith);
-          },
-          omega arith,
-        )
+        (rw (add-one count, add-new (keys_in index count) k (new r e (sym s ∙ h)), ← g) (keys-stored index count head i t.size l), omega arith)
 
 -- a key that stands at a number is there
 has_at : (index : List ℕ) (n k : ℕ) (l : Key) (j : ℕ) → j < n → same_key (key_at index (k + j)) l ≡ true → has_key (keys_from index k n) l ≡ true
@@ -71,12 +59,12 @@ has_at index (suc n) k l (suc j) h e =
     (λ t. has_there (key_at index k) (keys_from index (suc k) n) l t ∙ has_at index n (suc k) l j (omega arith) (rw f at e))
 
 pub added-near : (index : List ℕ) (count : ℕ) (k : Key) (near : ℕ) (r : Bool) → Indexed index count → near < count → r ≡ same_key (key_at index near) k → r ≡ true
-    → Grown index index (Some count) (add_key (keys_in index count) k)
+    → Grown index (Some count) (add_key (keys_in index count) k)
 added-near index count k near r t h e f =
     let ks = keys_in index count in
     let b : 0 + near ≡ near = omega arith in
     let a = add-there ks k (has_at index count 0 k near h (rw b (sym e ∙ f))) in
-    (rw a (none-added index count t), t.few)
+    (rw a refl, t.few)
 
 -- where an index is looked for first, and those that follow
 pub near-small : (count p n m j u : ℕ) (r : Maybe ℕ) → FoundAt r count p → u ≡ unwrap_or r count → count ≤ 256 → j ≤ m → m ≡ min n 257 → u + j ≤ 513
@@ -89,14 +77,13 @@ pub record Adding (before : List ℕ) (count x i n m : ℕ) (index : List ℕ) (
   pub most : m ≡ min n 257
   pub table : Indexed index c
   pub same : add_indices (keys_in index c) x (m - j) (i + j) ≡ add_range (keys_in before count) x i n
-  pub texts : take 256 index ≡ take 256 before
 
 pub adding-start : (index : List ℕ) (count x i n m : ℕ) → Indexed index count → m ≡ min n 257 → Adding index count x i n m index count 0
 unfolding add_range
 adding-start index count x i n m t e =
     let a : m - 0 ≡ min n 257 = omega arith in
     let b : i + 0 ≡ i = omega arith in
-    record { within = omega arith; most = e; table = t; same = rw (a, b); texts = refl }
+    record { within = omega arith; most = e; table = t; same = rw (a, b) }
 
 module _ (before : List ℕ) (count x i n m : ℕ) (index : List ℕ) (c j : ℕ) (a : Adding before count x i n m index c j) where
   next : j < m → add_indices (add_key (keys_in index c) (key x (some (i + j)))) x (m - (j + 1)) (i + (j + 1)) ≡ add_range (keys_in before count) x i n
@@ -108,32 +95,29 @@ module _ (before : List ℕ) (count x i n m : ℕ) (index : List ℕ) (c j : ℕ
       rw (← f) g
 
   module _ (l : Key) (after : List ℕ) (h : j < m) (here : l ≡ key x (some (i + j))) where
-    pub adding-over : (r : Maybe ℕ) → r ≡ None → KeysAdded index after 257 (add_key (keys_in index c) l) → Grown before after r (add_range (keys_in before count) x i n)
+    pub adding-over : (r : Maybe ℕ) → r ≡ None → 256 < length (add_key (keys_in index c) l) → Grown after r (add_range (keys_in before count) x i n)
     adding-over r e k =
         let ks = add_key (keys_in index c) (key x (some (i + j))) in
         let far : length ks ≤ length (add_indices ks x (m - (j + 1)) (i + (j + 1))) =
         keep-indices (AtLeast (length ks)) (more-long (length ks)) ks x (m - (j + 1)) (i + (j + 1)) (omega arith) in
-        let u = added_full index after after 257 ks (rw here at k) refl (add_range (keys_in before count) x i n) (rw (next h) at far) in
-        rw e (record { counted = u.counted; keys = u.keys; texts = k.texts ∙ a.texts })
+        let f = rw (next h) at far in
+        let m : 256 < length ks = rw here at k in
+        rw e (omega arith)
 
-    pub adding-more : (r : ℕ) → length after ≡ length index → Grown index after (Some r) (add_key (keys_in index c) l) → Adding before count x i n m after r (j + 1)
+    pub adding-more : (r : ℕ) → length after ≡ length index → Grown after (Some r) (add_key (keys_in index c) l) → Adding before count x i n m after r (j + 1)
     adding-more r s g =
-        let k = g.0 in
         let few : r ≤ 256 = g.1 in
-        let q : keys_in after r ≡ add_key (keys_in index c) (key x (some (i + j))) = rw here at (k.keys few) in
+        let q : keys_in after r ≡ add_key (keys_in index c) (key x (some (i + j))) = rw here at g.0 in
         record {
           within = omega arith;
           most = a.most;
           table = record { size = s ∙ a.table.size; few = few };
           same = rw q (next h);
-          texts = k.texts ∙ a.texts;
         }
 
-  pub adding-end : m ≤ j → Grown before index (Some c) (add_range (keys_in before count) x i n)
+  pub adding-end : m ≤ j → Grown index (Some c) (add_range (keys_in before count) x i n)
   unfolding add_indices
   adding-end h =
       let e : m - j ≡ 0 = omega arith in
       let s : keys_in index c ≡ add_range (keys_in before count) x i n = rw e at a.same in
-      let l : length (keys_in index c) ≡ c = length-keys index 0 c in
-      let u : length (add_range (keys_in before count) x i n) ≡ c = rw s at l in
-      (record { counted = omega (arith, a.table.few); keys = λ w. s; texts = a.texts }, a.table.few)
+      (s, a.table.few)

@@ -1,19 +1,19 @@
 -- The mark sheet by places: what is looked up in it, and what it is after a measure, a reset and a branch.
-use Rattle.std.specs.Prelude.{ℕ, zero, suc, ◌≤◌, ◌<◌, min, ◌≡◌, List, [], ◌∷◌, Bool, true, false, cond, ◌&&◌, length, take, eqb, leb}
+use Rattle.std.specs.Prelude.{ℕ, zero, suc, ◌≤◌, ◌<◌, ◌≡◌, List, [], ◌∷◌, Bool, true, false, cond, ◌&&◌, length, eqb, leb}
 use Rattle.std.proofs.Math.Option.{Option, none, some}
 use Rattle.span.specs.declared.Span.{Span}
 use Rattle.ast.specs.Tree.{TextNumber, GateOperand}
 use Rattle.sema.specs.Limits.{key_limit}
 use Rattle.sema.specs.Marks.{Key, key, Effect, set, keep, in_slice, is_index, measures}
 use Rattle.sema.specs.Keys.{same_key, has_key}
-use Rattle.context.specs.View.{place_in, keys_in, key_base, measure_span}
+use Rattle.context.specs.View.{place_in, keys_in, measure_span}
 use Rattle.context.specs.Values.{number_of}
 use Rattle.std.specs.Prelude.{Option as Maybe, Some, None}
 use Rattle.sheet.specs.declared.keys.IndexKey.{IndexKey as KeyValue}
 
 -- an index with room for all keys, and so many keys in it
 pub record Indexed (index : List ℕ) (count : ℕ) : Type 0 where
-  pub size : length index ≡ 768
+  pub size : length index ≡ 512
   pub few : count ≤ key_limit
 
 -- the key that the code holds
@@ -106,13 +106,7 @@ united [] bs = []
 united (a ∷ r) [] = a ∷ r
 united (a ∷ r) (b ∷ bs) = first a b ∷ united r bs
 
--- the index and the count where the keys are to be ks; one more than the limit says that they are too many
-pub record KeysAdded (before after : List ℕ) (count : ℕ) (ks : List Key) : Type 0 where
-  pub counted : count ≡ min (length ks) (suc key_limit)
-  pub keys : count ≤ key_limit → keys_in after count ≡ ks
-  pub texts : take key_base after ≡ take key_base before
-
--- the same with an Option for the count: none where they are too many
-abbrev pub Grown : List ℕ → List ℕ → Maybe ℕ → List Key → Type 0
-Grown before after (Some count) ks = KeysAdded before after count ks × (count ≤ key_limit)
-Grown before after None ks = KeysAdded before after (suc key_limit) ks
+-- the index where its keys are to be ks, and how many there are: none where they are too many
+abbrev pub Grown : List ℕ → Maybe ℕ → List Key → Type 0
+Grown after (Some count) ks = (keys_in after count ≡ ks) × (count ≤ key_limit)
+Grown after None ks = key_limit < length ks

@@ -7,8 +7,6 @@ use Rattle.ast.specs.Tree.{TextNumber}
 use Rattle.sema.specs.Marks.{Key, key}
 use Rattle.sema.specs.Keys.{has_key, add_key, add_indices, add_range}
 use Rattle.context.specs.View.{key_by, key_at, keys_from, keys_in}
-use Rattle.sema.specs.Limits.{key_limit}
-use Rattle.sheet.specs.Sheet.{Indexed, KeysAdded}
 use Rattle.sheet.specs.Places.{by_test}
 
 pub length-keys : (index : List ℕ) (k n : ℕ) → length (keys_from index k n) ≡ n
@@ -58,18 +56,18 @@ keys_snoc index k (suc n) =
     let e : suc k + n ≡ k + suc n = omega arith in
     ap (λ (l : List Key). key_at index k ∷ l) (rw e at (keys_snoc index (suc k) n))
 
-pub keys_below : (index : List ℕ) (at v k n : ℕ) → 256 + 2 * (k + n) ≤ at → keys_from (set index at v) k n ≡ keys_from index k n
+pub keys_below : (index : List ℕ) (at v k n : ℕ) → 2 * (k + n) ≤ at → keys_from (set index at v) k n ≡ keys_from index k n
 unfolding keys_from
 keys_below index at v k zero h = refl
 keys_below index at v k (suc n) h =
-    rw (get_or-set_other index at (256 + 2 * k) v 0 (omega arith), get_or-set_other index at (256 + 2 * k + 1) v 0 (omega arith))
+    rw (get_or-set_other index at (2 * k) v 0 (omega arith), get_or-set_other index at (2 * k + 1) v 0 (omega arith))
     (ap (λ (l : List Key). key_at index k ∷ l) (keys_below index at v (suc k) n (omega arith)))
 
 -- a key stored behind the others
-pub keys-stored : (index : List ℕ) (count head i : ℕ) → length index ≡ 768 → count < 256
-    → keys_in (set (set index (256 + 2 * count) head) (256 + 2 * count + 1) i) (suc count) ≡ keys_in index count ++ key_by head i ∷ []
+pub keys-stored : (index : List ℕ) (count head i : ℕ) → length index ≡ 512 → count < 256
+    → keys_in (set (set index (2 * count) head) (2 * count + 1) i) (suc count) ≡ keys_in index count ++ key_by head i ∷ []
 keys-stored index count head i l h =
-    let at = 256 + 2 * count in
+    let at = 2 * count in
     let u = set index at head in
     let z : 0 + count ≡ count = omega arith in
     let a : get_or (set u (at + 1) i) at 0 ≡ head =
@@ -82,19 +80,3 @@ keys-stored index count head i l h =
 pub range_most : (ks : List Key) (x : TextNumber) (i n m : ℕ) → min n 257 ≡ min m 257 → add_range ks x i n ≡ add_range ks x i m
 unfolding add_range
 range_most ks x i n m e = rw e
-
--- no key more
-pub none-added : (i : List ℕ) (count : ℕ) → Indexed i count → KeysAdded i i count (keys_in i count)
-none-added i count t = record { counted = omega (arith, length-keys i 0 count, t.few); keys = λ l. refl; texts = refl }
-
--- one step after another
-module _ (before mid after : List ℕ) (c : ℕ) (ks : List Key) (a : KeysAdded before mid c ks) where
-  pub added_then : c ≤ key_limit → (f : List Key → List Key) (r : ℕ) → KeysAdded mid after r (f (keys_in mid c)) → KeysAdded before after r (f ks)
-  added_then h f r b =
-      let e : keys_in mid c ≡ ks = a.keys h in
-      record { counted = rw e at b.counted; keys = λ g. b.keys g ∙ ap f e; texts = b.texts ∙ a.texts }
-
-  -- what is too much stays too much
-  pub added_full : c ≡ suc key_limit → (ls : List Key) → length ks ≤ length ls → KeysAdded before mid (suc key_limit) ls
-  added_full e ls l =
-      record { counted = omega (arith, a.counted); keys = λ g. absurd (omega arith); texts = a.texts }

@@ -5,7 +5,7 @@ ghost use Rattle.context.specs.Values.{number_of};
 ghost use Rattle.context.specs.View.{key_by, key_at};
 ghost use Rattle.sheet.specs.Sheet.{key_of};
 
-// Where the keys begin in the index, and how many there may be.
+// How many keys there may be.
 pub(crate) const KEYS: usize = 256;
 
 // A name, or a name with an index.
@@ -24,11 +24,11 @@ impl IndexKey {
 
     // Number k of the index: twice the name, and 1 more if it has an index; the index.
     pub(crate) fn at(index: &[u64], k: usize) -> IndexKey
-        requires { (length index.now ≡ 768) × (k < 256) }
+        requires { (length index.now ≡ 512) × (k < 256) }
         ensures { key_of result ≡ key_at index.now k }
     {
-        let head = index[KEYS + 2 * k];
-        let i = index[KEYS + 2 * k + 1];
+        let head = index[2 * k];
+        let i = index[2 * k + 1];
         IndexKey {
             // The number of a text: TryFrom would add an error that no text gives.
             name: (head / 2) as usize,

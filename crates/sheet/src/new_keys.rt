@@ -6,13 +6,10 @@ ghost use Rattle.sema.specs.Marks.{key};
 ghost use Rattle.sema.specs.Keys.{add_key, add_range, add_measured};
 ghost use Rattle.context.specs.Values.{number_of, ends_of};
 ghost use Rattle.context.specs.View.{keys_in};
-ghost use Rattle.sheet.specs.Sheet.{Indexed, key_of, position, FoundAt, Grown, KeysAdded};
+ghost use Rattle.sheet.specs.Sheet.{Indexed, key_of, position, FoundAt, Grown};
 
 use crate::keys::{IndexKey, KEYS};
 use context::GateOperand;
-
-// More keys than there may be.
-pub const OVER: usize = 257;
 
 // The number of a key.
 fn find(index: &[u64], count: usize, key: IndexKey) -> Option<usize>
@@ -26,7 +23,7 @@ fn find(index: &[u64], count: usize, key: IndexKey) -> Option<usize>
 fn add_key(index: &mut [u64], count: usize, key: IndexKey) -> Option<usize>
     requires indexed { Indexed index.old count }
     requires name_bound { key.name < 256 }
-    ensures added { Grown index.old index.new result (add_key (keys_in index.old count) (key_of key)) }
+    ensures added { Grown index.new result (add_key (keys_in index.old count) (key_of key)) }
     ensures over { result ≡ None → index.new ≡ index.old }
 {
     if find(index, count, key).is_some() {
@@ -36,8 +33,8 @@ fn add_key(index: &mut [u64], count: usize, key: IndexKey) -> Option<usize>
         return None;
     }
     let (head, i) = key.numbers();
-    index[KEYS + 2 * count] = head;
-    index[KEYS + 2 * count + 1] = i;
+    index[2 * count] = head;
+    index[2 * count + 1] = i;
     Some(count + 1)
 }
 
@@ -45,7 +42,7 @@ fn add_key(index: &mut [u64], count: usize, key: IndexKey) -> Option<usize>
 fn add_near(index: &mut [u64], count: usize, near: usize, key: IndexKey) -> Option<usize>
     requires indexed { Indexed index.old count }
     requires name_bound { key.name < 256 }
-    ensures added { Grown index.old index.new result (add_key (keys_in index.old count) (key_of key)) }
+    ensures added { Grown index.new result (add_key (keys_in index.old count) (key_of key)) }
     ensures over { result ≡ None → index.new ≡ index.old }
 {
     if near < count && IndexKey::at(index, near) == key {
@@ -58,7 +55,7 @@ fn add_near(index: &mut [u64], count: usize, near: usize, key: IndexKey) -> Opti
 fn add_range(index: &mut [u64], count: usize, x: usize, i: u64, n: u64) -> Option<usize>
     requires indexed { Indexed index.old count }
     requires x_bound { (x < 256) × (i + n ≤ 2 ^ 64) }
-    ensures { Grown index.old index.new result (add_range (keys_in index.old count) x i n) }
+    ensures { Grown index.new result (add_range (keys_in index.old count) x i n) }
 {
     let first = find(index, count, IndexKey::new(x, Some(i))).unwrap_or(count);
     let mut c = count;
@@ -73,7 +70,7 @@ fn add_range(index: &mut [u64], count: usize, x: usize, i: u64, n: u64) -> Optio
 fn add_slice(index: &mut [u64], count: usize, x: usize, a: u64, b: u64) -> Option<usize>
     requires indexed { Indexed index.old count }
     requires x_bound { x < 256 }
-    ensures { Grown index.old index.new result (add_range (keys_in index.old count) x a (suc b - a)) }
+    ensures { Grown index.new result (add_range (keys_in index.old count) x a (suc b - a)) }
 {
     if b < a {
         return Some(count);
@@ -86,7 +83,7 @@ fn add_slice(index: &mut [u64], count: usize, x: usize, a: u64, b: u64) -> Optio
 fn add_whole(index: &mut [u64], count: usize, x: usize, size: Option<u64>) -> Option<usize>
     requires indexed { Indexed index.old count }
     requires x_bound { x < 256 }
-    ensures { Grown index.old index.new result (add_range (add_key (keys_in index.old count) (key x none)) x 0 (or0 (number_of size))) }
+    ensures { Grown index.new result (add_range (add_key (keys_in index.old count) (key x none)) x 0 (or0 (number_of size))) }
 {
     let c = add_key(index, count, IndexKey::new(x, None))?;
     match size {
@@ -97,23 +94,19 @@ fn add_whole(index: &mut [u64], count: usize, x: usize, size: Option<u64>) -> Op
 
 // The keys that a measure of the operand sets, where its name shows a size; None where there is no room for all.
 #[tactic(auto, unfolding(sema::specs::Keys::add_measured))]
-fn add_operand(index: &mut [u64], count: usize, op: GateOperand, size: Option<u64>) -> Option<usize>
+pub fn add_measured(
+    index: &mut [u64],
+    count: usize,
+    op: GateOperand,
+    size: Option<u64>,
+) -> Option<usize>
     requires indexed { Indexed index.old count }
     requires name_bound { op.name < 256 }
-    ensures { Grown index.old index.new result (add_measured (keys_in index.old count) op.name (number_of size) (ends_of op.slice) (number_of op.index)) }
+    ensures { Grown index.new result (add_measured (keys_in index.old count) op.name (number_of size) (ends_of op.slice) (number_of op.index)) }
 {
     match (op.slice, op.index) {
         (Some((a, b)), _) => add_slice(index, count, op.name, a, b),
         (None, Some(_)) => add_key(index, count, IndexKey::new(op.name, op.index)),
         (None, None) => add_whole(index, count, op.name, size),
     }
-}
-
-// The same, with OVER for None.
-pub fn add_measured(index: &mut [u64], count: usize, op: GateOperand, size: Option<u64>) -> usize
-    requires indexed { Indexed index.old count }
-    requires name_bound { op.name < 256 }
-    ensures { KeysAdded index.old index.new result (add_measured (keys_in index.old count) op.name (number_of size) (ends_of op.slice) (number_of op.index)) }
-{
-    add_operand(index, count, op, size).unwrap_or(OVER)
 }

@@ -1,14 +1,8 @@
-// Parts of a lent text, and bytes as numbers.
+// Parts of a lent text.
 #![tactic(auto)]
 
-ghost use Rattle.std.specs.Prelude.{◌≡◌, ◌<◌};
+ghost use Rattle.std.specs.Prelude.{◌≡◌};
 ghost use Rattle.text.specs.Text.{part};
-
-pub fn wide(x: u8) -> usize
-    ensures { (result ≡ x) × (result < 256) }
-{
-    usize::from(x)
-}
 
 // The bytes from start up to end, as far as the text has them; none where end comes before start.
 pub fn part(s: &[u8], start: usize, end: usize) -> &[u8]

@@ -15,7 +15,7 @@ const ASSIGNABLE: [[bool; 5]; 5] = [
     [false, false, false, false, true],
 ];
 
-// The number of a type, as in a tree file.
+// The number of a type, as in a tree file. By `as`, since a match would say the order of the cases once more.
 pub fn number(ty: ClassicalType) -> usize
     ensures { (result ≡ number_of ty) × (result < 5) }
 {

@@ -21,7 +21,6 @@ use Rattle.sema.specs.Operands.{unless}
 use Rattle.sema.specs.Exprs.{Typing, untyped, expr_span, argument_says, rest, check_expr, check_all, check_arguments}
 use Rattle.context.specs.declared.Sink.{Sink}
 use Rattle.context.specs.declared.Typing.{Typing as TypingValue}
-use Rattle.context.specs.Sink.{SinkFits}
 use Rattle.context.specs.Values.{typed_of}
 use Rattle.context.specs.View.{number_at, span_at}
 use Rattle.accepted.specs.Cases.{blank}
@@ -87,11 +86,11 @@ pub record Arguing (t : List Text) (ss : Symbols) (fs : Table FunctionSig) (left
   pub owes : Owes t (given [] (λ es. check_arguments ss fs es x 0 ps) (exprs (expr t left) tree at)) s₀ o₀ (check_arguments ss fs (value_or no_expr (repeat no_expr more_expr (expr t left) (n - i) tree k)) x i (drop i ps)) s o
 
 module _ {t : List Text} {ss : Symbols} {fs : Table FunctionSig} {left : ℕ} {tree : List ℕ} {at x : ℕ} {ps : List ClassicalType} {n : ℕ} {s₀ : Sink} {o₀ : List ℕ} where
-  pub arguing_start : n ≡ get_or tree at 0 → IsOk (exprs (expr t left) tree at) → SinkFits s₀ → Arguing t ss fs left tree at x ps n s₀ o₀ (at + 1) 0 s₀ o₀
-  arguing_start e h f = record {
+  pub arguing_start : n ≡ get_or tree at 0 → IsOk (exprs (expr t left) tree at) → Arguing t ss fs left tree at x ps n s₀ o₀ (at + 1) 0 s₀ o₀
+  arguing_start e h = record {
     remains = rw (sub-zero n) (remains-start no_expr more_expr (expr t left) tree at n h e);
     past = omega arith;
-    owes = owes_as (owes-start f) (given_ok no_expr [] (λ es. check_arguments ss fs es x 0 ps) (exprs (expr t left) tree at) h ∙ rw (sub-zero n, e, ← counted_is tree at no_expr more_expr (expr t left) h));
+    owes = owes_as owes-start (given_ok no_expr [] (λ es. check_arguments ss fs es x 0 ps) (exprs (expr t left) tree at) h ∙ rw (sub-zero n, e, ← counted_is tree at no_expr more_expr (expr t left) h));
   }
 
   module _ {k i : ℕ} {s : Sink} {o : List ℕ} (a : Arguing t ss fs left tree at x ps n s₀ o₀ k i s o) where

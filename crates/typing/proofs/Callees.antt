@@ -20,7 +20,6 @@ use Rattle.sema.specs.Symbols.{FunctionSig}
 use Rattle.sema.specs.Operands.{unless}
 use Rattle.context.specs.declared.Sink.{Sink}
 use Rattle.context.specs.declared.FunctionSig.{FunctionSig as SigValue}
-use Rattle.context.specs.Sink.{SinkFits}
 use Rattle.context.specs.Values.{typed_of}
 use Rattle.lines.specs.declared.Message.{Message}
 use Rattle.lines.specs.declared.Note.{Note}
@@ -38,8 +37,8 @@ wrong x n params sp at = error_with_note (Messages.function_arguments x params n
 module _ {t : List Text} {s : Sink} {o : List ℕ} where
   -- so many arguments
   module _ (x n params : ℕ) (sp at : Span) where
-    pub count-right : n ≡ params → SinkFits s → Emitted t (unless (eqb n params) (wrong x n params sp at)) s o s o
-    count-right e f = unless_holds (eqb n params) (wrong x n params sp at) (eq-eqb n params e) f
+    pub count-right : n ≡ params → Emitted t (unless (eqb n params) (wrong x n params sp at)) s o s o
+    count-right e = unless_holds (eqb n params) (wrong x n params sp at) (eq-eqb n params e)
 
     pub count-wrong : {d : DiagnosticValue} {r : Sink} {o' : List ℕ} → (n ≡ params → ⊥) → d ≡ error_with_note_of (Message.FunctionArguments x params n) sp Note.FunctionDefined at → Reported t d s o r o' → Emitted t (unless (eqb n params) (wrong x n params sp at)) s o r o'
     count-wrong z e p = unless_fails (eqb n params) (ne_eqb n params z) (rw e at p)
@@ -60,11 +59,11 @@ module _ {t : List Text} {s : Sink} {o : List ℕ} where
 
   -- an argument against its parameter
   module _ (x i : ℕ) (sp : Span) (ps : List ClassicalType) (u : Maybe ClassicalType) where
-    pub argument_free : {n : ℕ} → n ≡ length ps → n ≤ i → SinkFits s → Emitted t (argument_at x i sp (drop i ps) (typed_of u)) s o s o
+    pub argument_free : {n : ℕ} → n ≡ length ps → n ≤ i → Emitted t (argument_at x i sp (drop i ps) (typed_of u)) s o s o
     unfolding argument_at
-    argument_free e l f =
+    argument_free e l =
         let k : length ps ≤ i = omega arith in
-        rw (drop_of_length-le ps k) (emitted-none f)
+        rw (drop_of_length-le ps k) emitted-none
 
     pub argument_there : {n : ℕ} {p : ClassicalType} {r : Sink} {o' : List ℕ} → n ≡ length ps → i < n → p ≡ get_or ps i ClassicalType.Int → Emitted t (unmet (Wanted.Argument p (i + 1) x) sp (typed_of u)) s o r o' → Emitted t (argument_at x i sp (drop i ps) (typed_of u)) s o r o'
     unfolding argument_at

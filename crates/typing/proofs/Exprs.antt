@@ -14,7 +14,6 @@ use Rattle.sema.specs.Symbols.{Symbols, FunctionSig, Table}
 use Rattle.sema.specs.Exprs.{Typing, neg_type, arithmetic_type, compare_type, check_expr}
 use Rattle.context.specs.declared.Sink.{Sink}
 use Rattle.context.specs.declared.Typing.{Typing as TypingValue}
-use Rattle.context.specs.Sink.{SinkFits}
 use Rattle.context.specs.Values.{typed_of}
 use Rattle.context.specs.View.{number_at, span_at}
 use Rattle.accepted.specs.Cases.{blank}
@@ -22,7 +21,8 @@ use Rattle.accepted.specs.Parts.{value_or, next_is, given_is, given_ok}
 use Rattle.accepted.specs.Exprs as of
 use Rattle.promises.specs.Emitted.{emitted_then, emitted_as}
 use Rattle.promises.specs.Typings.{TypingOf}
-use Rattle.typing.specs.Checks.{Found, has_type, operation_type}
+use Rattle.typing.specs.declared.Operator.{Operator}
+use Rattle.typing.specs.Checks.{Found, has_type, operator_of, operation_type}
 use Rattle.typing.proofs.Finds.{found-typed}
 
 module _ {t : List Text} {ss : Symbols} {fs : Table FunctionSig} {s : Sink} {o : List ℕ} {r : TypingValue} {o' : List ℕ} where
@@ -66,22 +66,21 @@ module _ {t : List Text} {s : Sink} {o : List ℕ} {a : TypingValue} {o₁ : Lis
 
 module _ (t : List Text) (left : ℕ) (s : List ℕ) (at : ℕ) (h : IsOk (expr t left s at)) {ss : Symbols} {fs : Table FunctionSig} {k : Sink} {o : List ℕ} {r : TypingValue} where
   -- literals and constants
-  module _ (f : SinkFits k) where
-    pub int_typing : get_or s at 0 ≡ 0 → r ≡ has_type ClassicalType.Int (at + 17) k → TypingOf t ss fs (expr t left s at) k o r o
-    unfolding check_expr
-    int_typing b e = typing_is (of.int_lit_is t left s at h b) (found-typed f e)
+  pub int_typing : get_or s at 0 ≡ 0 → r ≡ has_type ClassicalType.Int (at + 17) k → TypingOf t ss fs (expr t left s at) k o r o
+  unfolding check_expr
+  int_typing b e = typing_is (of.int_lit_is t left s at h b) (found-typed e)
 
-    pub float_typing : get_or s at 0 ≡ 1 → r ≡ has_type ClassicalType.Float (at + 11) k → TypingOf t ss fs (expr t left s at) k o r o
-    unfolding check_expr
-    float_typing b e = typing_is (of.float_lit_is t left s at h b) (found-typed f e)
+  pub float_typing : get_or s at 0 ≡ 1 → r ≡ has_type ClassicalType.Float (at + 11) k → TypingOf t ss fs (expr t left s at) k o r o
+  unfolding check_expr
+  float_typing b e = typing_is (of.float_lit_is t left s at h b) (found-typed e)
 
-    pub bool_typing : get_or s at 0 ≡ 2 → r ≡ has_type ClassicalType.Bool (at + 10) k → TypingOf t ss fs (expr t left s at) k o r o
-    unfolding check_expr
-    bool_typing b e = typing_is (of.bool_lit_is t left s at h b) (found-typed f e)
+  pub bool_typing : get_or s at 0 ≡ 2 → r ≡ has_type ClassicalType.Bool (at + 10) k → TypingOf t ss fs (expr t left s at) k o r o
+  unfolding check_expr
+  bool_typing b e = typing_is (of.bool_lit_is t left s at h b) (found-typed e)
 
-    pub const_typing : get_or s at 0 ≡ 6 → r ≡ has_type ClassicalType.Float (at + 10) k → TypingOf t ss fs (expr t left s at) k o r o
-    unfolding check_expr
-    const_typing b e = typing_is (of.const_is t left s at h b) (found-typed f e)
+  pub const_typing : get_or s at 0 ≡ 6 → r ≡ has_type ClassicalType.Float (at + 10) k → TypingOf t ss fs (expr t left s at) k o r o
+  unfolding check_expr
+  const_typing b e = typing_is (of.const_is t left s at h b) (found-typed e)
 
   -- names
   module _ {o' : List ℕ} where
@@ -96,12 +95,12 @@ module _ (t : List Text) (left : ℕ) (s : List ℕ) (at : ℕ) (h : IsOk (expr 
       pub neg_typing : get_or s at 0 ≡ 7 → TypingOf t ss fs (expr t (left - 1) s (at + 1)) k o a o₁ → Found t (neg_type (span_at s a.next) (typed_of a.typed)) (a.next + 8) a.sink o₁ r o' → TypingOf t ss fs (expr t left s at) k o r o'
       neg_typing b p q = typing_is (of.neg_is t left s at h b _ p.next) (neg-found ss fs _ (found_of _ (of.neg_inner t left s at h b) p) _ q)
 
-      pub pair_typing : {v : TypingValue} {o₂ : List ℕ} → of.Operation t left s at h → TypingOf t ss fs (expr t (left - 1) s (at + 2)) k o a o₁ → TypingOf t ss fs (expr t (left - 1) s a.next) a.sink o₁ v o₂ → Found t (operation_type (get_or s at 0) (span_at s v.next) (typed_of a.typed) (typed_of v.typed)) (v.next + 8) v.sink o₂ r o' → TypingOf t ss fs (expr t left s at) k o r o'
+      pub pair_typing : {v : TypingValue} {o₂ : List ℕ} → of.Operation t left s at h → TypingOf t ss fs (expr t (left - 1) s (at + 2)) k o a o₁ → TypingOf t ss fs (expr t (left - 1) s a.next) a.sink o₁ v o₂ → {c : Operator} → c ≡ operator_of (get_or s at 0) → Found t (operation_type c (span_at s v.next) (typed_of a.typed) (typed_of v.typed)) (v.next + 8) v.sink o₂ r o' → TypingOf t ss fs (expr t left s at) k o r o'
       unfolding check_expr operation_type
-      pair_typing {v = v} b p q f =
+      pair_typing {v = v} b p q e f =
           let lhs = found_of _ (of.pair_lhs t left s at h b) p in
           let rhs = found_of _ (of.pair_rhs t left s at h b _ p.next) q in
           ⊎_elim
-          (λ c. typing_is (of.binary_is t left s at h c _ p.next _ q.next) (pair_found lhs rhs (arithmetic_type (span_at s v.next)) (rw c at f)))
-          (λ c. typing_is (of.compare_is t left s at h c _ p.next _ q.next) (pair_found lhs rhs (compare_type (span_at s v.next)) (rw c at f)))
+          (λ c. typing_is (of.binary_is t left s at h c _ p.next _ q.next) (pair_found lhs rhs (arithmetic_type (span_at s v.next)) (rw (e, c) at f)))
+          (λ c. typing_is (of.compare_is t left s at h c _ p.next _ q.next) (pair_found lhs rhs (compare_type (span_at s v.next)) (rw (e, c) at f)))
           b

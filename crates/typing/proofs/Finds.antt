@@ -9,7 +9,6 @@ use Rattle.std.specs.Prelude.{None}
 use Rattle.sema.specs.Exprs.{Typing, typed, untyped}
 use Rattle.context.specs.declared.Sink.{Sink}
 use Rattle.context.specs.declared.Typing.{Typing as TypingValue}
-use Rattle.context.specs.Sink.{SinkFits}
 use Rattle.lines.specs.declared.Message.{Message}
 use Rattle.lines.specs.declared.Diagnostic.{Diagnostic as DiagnosticValue}
 use Rattle.lines.specs.Values.{diagnostic_of, error_of, Reported}
@@ -22,11 +21,11 @@ refused m sp = untyped (diagnostic_of (error_of m sp) ∷ [])
 
 module _ {t : List Text} {s : Sink} {o : List ℕ} where
   module _ {end : ℕ} where
-    pub found-typed : {ty : ClassicalType} {r : TypingValue} → SinkFits s → r ≡ has_type ty end s → Found t (typed ty) end s o r o
-    found-typed f e = rw e (record { next = refl; type = refl; emitted = emitted-none f })
+    pub found-typed : {ty : ClassicalType} {r : TypingValue} → r ≡ has_type ty end s → Found t (typed ty) end s o r o
+    found-typed e = rw e (record { next = refl; type = refl; emitted = emitted-none })
 
-    pub found_nothing : SinkFits s → Found t (untyped []) end s o (record { typed = None; next = end; sink = s }) o
-    found_nothing f = record { next = refl; type = refl; emitted = emitted-none f }
+    pub found_nothing : Found t (untyped []) end s o (record { typed = None; next = end; sink = s }) o
+    found_nothing = record { next = refl; type = refl; emitted = emitted-none }
 
     pub found-error : {d : DiagnosticValue} {m : Message} {sp : Span} {r : Sink} {o' : List ℕ} → d ≡ error_of m sp → Reported t d s o r o' → Found t (refused m sp) end s o (record { typed = None; next = end; sink = r }) o'
     found-error e p = record { next = refl; type = refl; emitted = emitted_report e p }

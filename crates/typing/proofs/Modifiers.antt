@@ -19,7 +19,6 @@ use Rattle.sema.specs.Symbols.{Symbols, FunctionSig, Table}
 use Rattle.sema.specs.Exprs.{require_type, require_numeric, control_says, check_modifier}
 use Rattle.context.specs.declared.Sink.{Sink}
 use Rattle.context.specs.declared.After.{After}
-use Rattle.context.specs.Sink.{SinkFits}
 use Rattle.context.specs.View.{span_at}
 use Rattle.lines.specs.declared.Message.{Message}
 use Rattle.lines.specs.declared.Diagnostic.{Diagnostic as DiagnosticValue}
@@ -43,11 +42,11 @@ span-behind t s at = span_at s (next_of (option (held t) s at))
 -- the count of a control
 module _ (t : List Text) (ss : Symbols) (fs : Table FunctionSig) (s : List ℕ) (at : ℕ) where
   module _ (h : IsOk (option (held t) s at)) {k : Sink} {o : List ℕ} where
-    pub control_absent : get_or s at 0 ≡ 0 → SinkFits k → SaidOf t (λ arg. control_says ss fs arg (span-behind t s at)) (option (held t) s at) k o (record { next = at + 1; sink = k }) o
+    pub control_absent : get_or s at 0 ≡ 0 → SaidOf t (λ arg. control_says ss fs arg (span-behind t s at)) (option (held t) s at) k o (record { next = at + 1; sink = k }) o
     unfolding control_says
-    control_absent z f =
+    control_absent z =
         let is = option-none s at (held t) h z in
-        record { next = sym (next_is is); emitted = emitted_as (emitted-none f) (sym (given_is is [] (λ arg. control_says ss fs arg (span-behind t s at)))) }
+        record { next = sym (next_is is); emitted = emitted_as emitted-none (sym (given_is is [] (λ arg. control_says ss fs arg (span-behind t s at)))) }
 
     module _ (z : get_or s at 0 ≡ 0 → ⊥) {a : After} {o₁ : List ℕ} (p : SaidOf t (λ e. require_type ss fs e ClassicalType.Int Messages.control_argument) (held t s (at + 1)) k o a o₁) {e : Past (rust.Option Int128)} (v : ValueOf (held t s (at + 1)) e) {b : Bool} (c : b ≡ is_count (whole_of e.value)) where
       control-some : {r : Sink} {o₂ : List ℕ} → Emitted t (unless b (error Messages.control_count (span-behind t s at))) a.sink o₁ r o₂ → SaidOf t (λ arg. control_says ss fs arg (span-behind t s at)) (option (held t) s at) k o (record { next = a.next; sink = r }) o₂
@@ -64,8 +63,8 @@ module _ (t : List Text) (ss : Symbols) (fs : Table FunctionSig) (s : List ℕ) 
                 (sym (given_is is [] (λ arg. control_says ss fs arg (span-behind t s at))));
           }
 
-      pub control-right : b ≡ true → SinkFits a.sink → SaidOf t (λ arg. control_says ss fs arg (span-behind t s at)) (option (held t) s at) k o (record { next = a.next; sink = a.sink }) o₁
-      control-right d f = control-some (unless_holds b _ d f)
+      pub control-right : b ≡ true → SaidOf t (λ arg. control_says ss fs arg (span-behind t s at)) (option (held t) s at) k o (record { next = a.next; sink = a.sink }) o₁
+      control-right d = control-some (unless_holds b _ d)
 
       pub control-wrong : {sp : Span} {d : DiagnosticValue} {r : Sink} {o₂ : List ℕ} → b ≡ false → sp ≡ span_at s a.next → d ≡ error_of Message.ControlCount sp → Reported t d a.sink o₁ r o₂ → SaidOf t (λ arg. control_says ss fs arg (span-behind t s at)) (option (held t) s at) k o (record { next = a.next; sink = r }) o₂
       control-wrong f i j m =
@@ -74,11 +73,11 @@ module _ (t : List Text) (ss : Symbols) (fs : Table FunctionSig) (s : List ℕ) 
 
 -- one modifier
 module _ (t : List Text) (ss : Symbols) (fs : Table FunctionSig) (s : List ℕ) (at : ℕ) (h : IsOk (modifier t s at)) {k : Sink} {o : List ℕ} where
-  pub inv-said : get_or s at 0 ≡ 2 → SinkFits k → SaidOf t (check_modifier ss fs) (modifier t s at) k o (record { next = at + 9; sink = k }) o
+  pub inv-said : get_or s at 0 ≡ 2 → SaidOf t (check_modifier ss fs) (modifier t s at) k o (record { next = at + 9; sink = k }) o
   unfolding check_modifier
-  inv-said b f =
+  inv-said b =
       let is = of.inv_is t s at h b in
-      record { next = sym (next_is is); emitted = emitted_as (emitted-none f) (sym (given_is is [] (check_modifier ss fs))) }
+      record { next = sym (next_is is); emitted = emitted_as emitted-none (sym (given_is is [] (check_modifier ss fs))) }
 
   module _ {a : After} {o' : List ℕ} where
     pub pow-said : get_or s at 0 ≡ 3 → SaidOf t (λ e. require_numeric ss fs e Messages.power_numeric) (held t s (at + 1)) k o a o' → SaidOf t (check_modifier ss fs) (modifier t s at) k o (record { next = a.next + 8; sink = a.sink }) o'

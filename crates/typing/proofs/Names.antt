@@ -19,7 +19,6 @@ use Rattle.std.specs.Prelude.{Option as Maybe, Some, None}
 use Rattle.context.specs.declared.SymbolKind.{SymbolKind}
 use Rattle.context.specs.declared.Symbol.{Symbol}
 use Rattle.context.specs.declared.Typing.{Typing as TypingValue}
-use Rattle.context.specs.Sink.{SinkFits}
 use Rattle.context.specs.Values.{kind_of, number_of, symbol_of, found_of}
 use Rattle.lines.specs.declared.Message.{Message}
 use Rattle.typing.specs.Checks.{Found, has_type}
@@ -30,22 +29,21 @@ name_below e l = rw e l
 
 -- a name by its kind
 module _ {t : List Text} (x : ℕ) (sp : Span) {end : ℕ} {s : Sink} {o : List ℕ} {r : TypingValue} {k : SymbolKind} where
-  module _ (f : SinkFits s) where
-    pub ident_classical : {ty : ClassicalType} → k ≡ SymbolKind.Classical ty → r ≡ has_type ty end s → Found t (ident_type x sp (kind_of k)) end s o r o
-    unfolding ident_type
-    ident_classical e h = rw e (found-typed f h)
+  pub ident_classical : {ty : ClassicalType} → k ≡ SymbolKind.Classical ty → r ≡ has_type ty end s → Found t (ident_type x sp (kind_of k)) end s o r o
+  unfolding ident_type
+  ident_classical e h = rw e (found-typed h)
 
-    pub ident-const : {ty : ClassicalType} → k ≡ SymbolKind.Const ty → r ≡ has_type ty end s → Found t (ident_type x sp (kind_of k)) end s o r o
-    unfolding ident_type
-    ident-const e h = rw e (found-typed f h)
+  pub ident-const : {ty : ClassicalType} → k ≡ SymbolKind.Const ty → r ≡ has_type ty end s → Found t (ident_type x sp (kind_of k)) end s o r o
+  unfolding ident_type
+  ident-const e h = rw e (found-typed h)
 
-    pub ident_bit : k ≡ SymbolKind.Bit → r ≡ has_type ClassicalType.Int end s → Found t (ident_type x sp (kind_of k)) end s o r o
-    unfolding ident_type
-    ident_bit e h = rw e (found-typed f h)
+  pub ident_bit : k ≡ SymbolKind.Bit → r ≡ has_type ClassicalType.Int end s → Found t (ident_type x sp (kind_of k)) end s o r o
+  unfolding ident_type
+  ident_bit e h = rw e (found-typed h)
 
-    pub ident-param : k ≡ SymbolKind.GateParam → r ≡ has_type ClassicalType.Float end s → Found t (ident_type x sp (kind_of k)) end s o r o
-    unfolding ident_type
-    ident-param e h = rw e (found-typed f h)
+  pub ident-param : k ≡ SymbolKind.GateParam → r ≡ has_type ClassicalType.Float end s → Found t (ident_type x sp (kind_of k)) end s o r o
+  unfolding ident_type
+  ident-param e h = rw e (found-typed h)
 
   module _ {o' : List ℕ} (p : Found t (refused (Message.NotClassical x) sp) end s o r o') where
     pub ident-qubit : k ≡ SymbolKind.Qubit → Found t (ident_type x sp (kind_of k)) end s o r o'
@@ -85,9 +83,9 @@ module _ (x i : ℕ) (sp : Span) (v : Symbol) where
     index_unsized e z p = rw (index_of v.kind (sym is ∙ e), z) p
 
     module _ {n : ℕ} where
-      pub index-inside : b ≡ true → v.size ≡ Some n → i < n → SinkFits s → r ≡ has_type ClassicalType.Int end s → Found t (index_type x i sp (symbol_of v) (kind_of v.kind)) end s o r o
+      pub index-inside : b ≡ true → v.size ≡ Some n → i < n → r ≡ has_type ClassicalType.Int end s → Found t (index_type x i sp (symbol_of v) (kind_of v.kind)) end s o r o
       unfolding bit_index_type
-      index-inside e z l f h = rw (index_of v.kind (sym is ∙ e), z, lt-ltb i n l) (found-typed f h)
+      index-inside e z l h = rw (index_of v.kind (sym is ∙ e), z, lt-ltb i n l) (found-typed h)
 
       pub index-beyond : {o' : List ℕ} → b ≡ true → v.size ≡ Some n → n ≤ i → Found t (refused (Message.IndexOutOfBounds i x n) sp) end s o r o' → Found t (index_type x i sp (symbol_of v) (kind_of v.kind)) end s o r o'
       unfolding bit_index_type

@@ -15,7 +15,6 @@ use Rattle.sema.specs.Operands.{unless}
 use Rattle.sema.specs.Exprs.{mismatch, not_numeric}
 use Rattle.context.specs.declared.Sink.{Sink}
 use Rattle.context.specs.declared.Typing.{Typing as TypingValue}
-use Rattle.context.specs.Sink.{SinkFits}
 use Rattle.context.specs.Values.{typed_of}
 use Rattle.context.specs.View.{span_at}
 use Rattle.lines.specs.declared.Message.{Message}
@@ -44,12 +43,12 @@ unmet-some (Wanted.Argument expected i x) sp a = refl
 
 -- no type, a type as it is wanted, or another one
 module _ {t : List Text} {s : Sink} {o : List ℕ} (w : Wanted) (sp : Span) {u : Maybe ClassicalType} where
-  pub wanted_absent : u ≡ None → SinkFits s → Emitted t (unmet w sp (typed_of u)) s o s o
-  wanted_absent e f = rw (e, unmet-none w sp) (emitted-none f)
+  pub wanted_absent : u ≡ None → Emitted t (unmet w sp (typed_of u)) s o s o
+  wanted_absent e = rw (e, unmet-none w sp) emitted-none
 
   module _ {a : ClassicalType} (e : u ≡ Some a) {b : Bool} (g : b ≡ meets w a) where
-    pub wanted_right : b ≡ true → SinkFits s → Emitted t (unmet w sp (typed_of u)) s o s o
-    wanted_right c f = rw (e, unmet-some w sp a, ← g) (unless_holds b _ c f)
+    pub wanted_right : b ≡ true → Emitted t (unmet w sp (typed_of u)) s o s o
+    wanted_right c = rw (e, unmet-some w sp a, ← g) (unless_holds b _ c)
 
     pub wanted_wrong : {at : Span} {m : Message} {d : DiagnosticValue} {r : Sink} {o' : List ℕ} → b ≡ false → at ≡ sp → m ≡ complaint w a → d ≡ error_of m at → Reported t d s o r o' → Emitted t (unmet w sp (typed_of u)) s o r o'
     wanted_wrong c i j k p = rw (e, unmet-some w sp a, ← g) (unless_fails b c (rw (k, j, i) at p))

@@ -19,6 +19,7 @@ use Rattle.lines.specs.Values.{message_of, place_of, name_in, Below}
 use Rattle.tables.specs.Tables.{params_of}
 use Rattle.promises.specs.Emitted.{Emitted}
 use Rattle.typing.specs.declared.Callee.{Callee}
+use Rattle.typing.specs.declared.Operator.{Operator}
 use Rattle.typing.specs.declared.Wanted.{Wanted}
 
 -- what an expression that ends there is found to be, and what is said of it
@@ -35,16 +36,22 @@ has_type ty next s = record { typed = Some ty; next = next; sink = s }
 abbrev pub comparable : ClassicalType → ClassicalType → Bool
 comparable l r = eqb (number_of l) (number_of r) || (numeric l && numeric r)
 
--- an operation by its case byte: arithmetic or a comparison
-unfoldable pub operation_type : ℕ → Span → Option ClassicalType → Option ClassicalType → Typing
-operation_type c sp l r = cond (eqb c 8) (arithmetic_type sp l r) (compare_type sp l r)
+-- an operator by its case byte
+abbrev pub operator_of : ℕ → Operator
+operator_of c = cond (eqb c 8) Operator.Arithmetic Operator.Comparison
+
+unfoldable pub operation_type : Operator → Span → Option ClassicalType → Option ClassicalType → Typing
+operation_type Operator.Arithmetic sp l r = arithmetic_type sp l r
+operation_type Operator.Comparison sp l r = compare_type sp l r
 
 -- its type on two types, and what is said where there is none
-abbrev pub pair_type : ℕ → ClassicalType → ClassicalType → Maybe ClassicalType
-pair_type c l r = cond (eqb c 8) (arithmetic_of l r) (cond (comparable l r) (Some ClassicalType.Bool) None)
+abbrev pub pair_type : Operator → ClassicalType → ClassicalType → Maybe ClassicalType
+pair_type Operator.Arithmetic l r = arithmetic_of l r
+pair_type Operator.Comparison l r = cond (comparable l r) (Some ClassicalType.Bool) None
 
-abbrev pub pair_message : ℕ → Message
-pair_message c = cond (eqb c 8) Message.ArithmeticNumeric Message.ComparisonTypes
+abbrev pub pair_message : Operator → Message
+pair_message Operator.Arithmetic = Message.ArithmeticNumeric
+pair_message Operator.Comparison = Message.ComparisonTypes
 
 -- what is asked of a type: whether it is so, what is said where it is not, and the text that is named there
 abbrev pub meets : Wanted → ClassicalType → Bool

@@ -3,10 +3,9 @@ ghost use Rattle.std.specs.Prelude.{◌≡◌, ◌-◌, ◌≤◌, ◌<◌, leng
 ghost use Rattle.tree.specs.Decode.{texts_of};
 ghost use Rattle.sema.specs.Messages.{error_with_note, function_arguments, function_defined};
 ghost use Rattle.sema.specs.Operands.{unless};
-ghost use Rattle.context.specs.Sink.{SinkFits};
 ghost use Rattle.context.specs.Values.{typed_of};
 ghost use Rattle.context.specs.Given.{texts, functions};
-ghost use Rattle.context.specs.View.{TextsAt, span_at, functions_of};
+ghost use Rattle.context.specs.View.{span_at, functions_of};
 ghost use Rattle.tables.specs.Tables.{params_of};
 ghost use Rattle.promises.specs.Emitted.{Emitted};
 ghost use Rattle.typing.specs.Checks.{CalleeOf, argument_at};
@@ -27,7 +26,7 @@ fn count_arguments(
     span: Span,
     sink: Sink,
 ) -> Sink
-    requires { SinkFits sink × (x < length (texts sema)) }
+    requires { x < length (texts sema) }
     ensures { Emitted (texts sema.entry) (unless (eqb n sig.param_count) (error_with_note (function_arguments x sig.param_count n) span function_defined sig.decl_span)) sink out.old result out.new }
 {
     let params = sig.param_count;
@@ -38,8 +37,7 @@ fn count_arguments(
     lines::report(
         out,
         sink,
-        sema.tree,
-        sema.index,
+        sema.texts,
         // std has no From<usize> for u64.
         error_with_note(
             Message::FunctionArguments(x, params as u64, n as u64),
@@ -59,15 +57,14 @@ pub fn check_callee(
     span: Span,
     sink: Sink,
 ) -> Callee
-    requires { SinkFits sink × (x < length (texts sema)) }
+    requires { x < length (texts sema) }
     ensures { CalleeOf (texts sema.entry) (functions sema.entry x) x n span sink out.old result out.new }
 {
     let Some(sig) = tables::function(sema.scratch, x) else {
         let said = lines::report(
             out,
             sink,
-            sema.tree,
-            sema.index,
+            sema.texts,
             error(Message::FunctionNotDefined(x), span),
         );
         return Callee {
@@ -94,8 +91,8 @@ pub fn check_argument(
     i: usize,
     t: Typing,
 ) -> Sink
-    requires { SinkFits t.sink × (x < length (texts sema)) × (params ≡ length (params_of (functions sema x))) × (8 ≤ t.next) × (t.next ≤ length sema.tree.now) }
-    ensures { Emitted (texts sema.entry) (argument_at x i (span_at sema.entry.tree.now (t.next - 8)) (drop i (params_of (functions sema.entry x))) (typed_of t.typed)) t.sink out.old result out.new }
+    requires { (x < length (texts sema)) × (params ≡ length (params_of (functions sema x))) × (8 ≤ t.next) × (t.next ≤ length sema.texts.tree.now) }
+    ensures { Emitted (texts sema.entry) (argument_at x i (span_at sema.entry.texts.tree.now (t.next - 8)) (drop i (params_of (functions sema.entry x))) (typed_of t.typed)) t.sink out.old result out.new }
 {
     let sink = t.sink;
     if params <= i {

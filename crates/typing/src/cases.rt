@@ -3,13 +3,13 @@ ghost use Rattle.std.specs.Prelude.{◌≡◌, [], ◌∷◌, ◌+◌, ◌≤◌
 ghost use Rattle.ast.specs.Tree.{Expr};
 ghost use Rattle.tree.specs.Decode.{texts_of};
 ghost use Rattle.sema.specs.Exprs.{untyped, ident_type, index_type, neg_type, check_expr};
-ghost use Rattle.context.specs.Sink.{SinkFits};
 ghost use Rattle.context.specs.Values.{kind_of, symbol_of, typed_of};
 ghost use Rattle.context.specs.Given.{texts, scopes, functions};
-ghost use Rattle.context.specs.View.{TextsAt, number_at, span_at, scopes_of, functions_of};
+ghost use Rattle.context.specs.View.{number_at, span_at, scopes_of, functions_of};
 ghost use Rattle.lines.specs.Values.{Below, name_in, diagnostic_of, error_of};
-ghost use Rattle.typing.specs.Checks.{Found, has_type, comparable, operation_type, pair_type, pair_message};
+ghost use Rattle.typing.specs.Checks.{Found, has_type, comparable, operator_of, operation_type, pair_type, pair_message};
 
+use crate::Operator;
 use accepted::numbers::{span_at, u16_at, u64_at};
 use ast::ClassicalType;
 use context::{SemaContext, Sink, Symbol, SymbolKind, Typing};
@@ -35,10 +35,10 @@ fn refuse(
     span: Span,
     next: usize,
 ) -> Typing
-    requires { SinkFits sink × Below (length (texts sema)) (name_in message) }
+    requires { Below (length (texts sema)) (name_in message) }
     ensures { Found (texts sema.entry) (untyped (diagnostic_of (error_of message span) ∷ [])) next sink out.old result out.new }
 {
-    let after = lines::report(out, sink, sema.tree, sema.index, error(message, span));
+    let after = lines::report(out, sink, sema.texts, error(message, span));
     Typing {
         typed: None,
         next,
@@ -56,7 +56,7 @@ fn ident_type(
     next: usize,
     sink: Sink,
 ) -> Typing
-    requires { SinkFits sink × (x < length (texts sema)) }
+    requires { x < length (texts sema) }
     ensures { Found (texts sema.entry) (ident_type x span (kind_of kind)) next sink out.old result out.new }
 {
     match kind {
@@ -70,11 +70,11 @@ fn ident_type(
 }
 
 pub fn check_ident(sema: SemaContext<'_>, out: &mut [u8], at: usize, sink: Sink) -> Typing
-    requires { SinkFits sink × (at + 11 ≤ length sema.tree.now) × (number_at 2 sema.tree.now (at + 1) < length (texts sema)) }
-    ensures { Found (texts sema.entry) (check_expr (scopes sema.entry) (functions sema.entry) (Expr.Ident (number_at 2 sema.entry.tree.now (at + 1)) (span_at sema.entry.tree.now (at + 3)))) (at + 11) sink out.old result out.new }
+    requires { (at + 11 ≤ length sema.texts.tree.now) × (number_at 2 sema.texts.tree.now (at + 1) < length (texts sema)) }
+    ensures { Found (texts sema.entry) (check_expr (scopes sema.entry) (functions sema.entry) (Expr.Ident (number_at 2 sema.entry.texts.tree.now (at + 1)) (span_at sema.entry.texts.tree.now (at + 3)))) (at + 11) sink out.old result out.new }
 {
-    let x = u16_at(sema.tree, at + 1);
-    let span = span_at(sema.tree, at + 3);
+    let x = u16_at(sema.texts.tree, at + 1);
+    let span = span_at(sema.texts.tree, at + 3);
     let next = at + 11;
     let Some(symbol) = tables::get(sema.scratch, sema.depth, x) else {
         return refuse(sema, out, sink, Message::NotDeclared(x), span, next);
@@ -94,7 +94,7 @@ fn index_type(
     next: usize,
     sink: Sink,
 ) -> Typing
-    requires { SinkFits sink × (x < length (texts sema)) }
+    requires { x < length (texts sema) }
     ensures { Found (texts sema.entry) (index_type x i span (symbol_of symbol) (kind_of symbol.kind)) next sink out.old result out.new }
 {
     let kind = symbol.kind;
@@ -119,12 +119,12 @@ fn index_type(
 }
 
 pub fn check_index(sema: SemaContext<'_>, out: &mut [u8], at: usize, sink: Sink) -> Typing
-    requires { SinkFits sink × (at + 19 ≤ length sema.tree.now) × (number_at 2 sema.tree.now (at + 1) < length (texts sema)) }
-    ensures { Found (texts sema.entry) (check_expr (scopes sema.entry) (functions sema.entry) (Expr.Index (number_at 2 sema.entry.tree.now (at + 1)) (number_at 8 sema.entry.tree.now (at + 3)) (span_at sema.entry.tree.now (at + 11)))) (at + 19) sink out.old result out.new }
+    requires { (at + 19 ≤ length sema.texts.tree.now) × (number_at 2 sema.texts.tree.now (at + 1) < length (texts sema)) }
+    ensures { Found (texts sema.entry) (check_expr (scopes sema.entry) (functions sema.entry) (Expr.Index (number_at 2 sema.entry.texts.tree.now (at + 1)) (number_at 8 sema.entry.texts.tree.now (at + 3)) (span_at sema.entry.texts.tree.now (at + 11)))) (at + 19) sink out.old result out.new }
 {
-    let x = u16_at(sema.tree, at + 1);
-    let i = u64_at(sema.tree, at + 3);
-    let span = span_at(sema.tree, at + 11);
+    let x = u16_at(sema.texts.tree, at + 1);
+    let i = u64_at(sema.texts.tree, at + 3);
+    let span = span_at(sema.texts.tree, at + 11);
     let next = at + 19;
     let Some(symbol) = tables::get(sema.scratch, sema.depth, x) else {
         return refuse(sema, out, sink, Message::NotDeclared(x), span, next);
@@ -134,8 +134,8 @@ pub fn check_index(sema: SemaContext<'_>, out: &mut [u8], at: usize, sink: Sink)
 
 // The type of an operand with a minus before it; the span stands behind the operand.
 pub fn negation(sema: SemaContext<'_>, out: &mut [u8], t: Typing) -> Typing
-    requires { SinkFits t.sink × (t.next + 8 ≤ length sema.tree.now) }
-    ensures { Found (texts sema.entry) (neg_type (span_at sema.entry.tree.now t.next) (typed_of t.typed)) (t.next + 8) t.sink out.old result out.new }
+    requires { t.next + 8 ≤ length sema.texts.tree.now }
+    ensures { Found (texts sema.entry) (neg_type (span_at sema.entry.texts.tree.now t.next) (typed_of t.typed)) (t.next + 8) t.sink out.old result out.new }
 {
     let next = t.next + 8;
     let sink = t.sink;
@@ -150,7 +150,7 @@ pub fn negation(sema: SemaContext<'_>, out: &mut [u8], t: Typing) -> Typing
     if types::is_numeric(ty) {
         return has_type(ty, next, sink);
     }
-    let span = span_at(sema.tree, t.next);
+    let span = span_at(sema.texts.tree, t.next);
     refuse(sema, out, sink, Message::NegationNumeric, span, next)
 }
 
@@ -160,38 +160,45 @@ fn comparable(a: ClassicalType, b: ClassicalType) -> bool
     a == b || (types::is_numeric(a) && types::is_numeric(b))
 }
 
-// The type of an operation on two types, by its case byte: none where they do not go together.
-fn pair_type(case: u8, a: ClassicalType, b: ClassicalType) -> Option<ClassicalType>
-    ensures { result ≡ pair_type case a b }
+// The operator with an accepted case byte.
+pub fn operator(case: u8) -> Operator
+    ensures { result ≡ operator_of case }
 {
-    if case == 8 {
-        return types::arithmetic_type(a, b);
+    match case {
+        8 => Operator::Arithmetic,
+        _ => Operator::Comparison,
     }
-    if comparable(a, b) {
-        return Some(ClassicalType::Bool);
-    }
-    None
 }
 
-fn pair_message(case: u8) -> Message
-    ensures { result ≡ pair_message case }
+// The type of an operation on two types: none where they do not go together.
+fn pair_type(operator: Operator, a: ClassicalType, b: ClassicalType) -> Option<ClassicalType>
+    ensures { result ≡ pair_type operator a b }
 {
-    if case == 8 {
-        return Message::ArithmeticNumeric;
+    match operator {
+        Operator::Arithmetic => types::arithmetic_type(a, b),
+        Operator::Comparison => comparable(a, b).then_some(ClassicalType::Bool),
     }
-    Message::ComparisonTypes
+}
+
+fn pair_message(operator: Operator) -> Message
+    ensures { result ≡ pair_message operator }
+{
+    match operator {
+        Operator::Arithmetic => Message::ArithmeticNumeric,
+        Operator::Comparison => Message::ComparisonTypes,
+    }
 }
 
 // The type of two operands with an operator or a comparison between them; the span stands behind them.
 pub fn operation(
     sema: SemaContext<'_>,
     out: &mut [u8],
-    case: u8,
+    operator: Operator,
     l: Option<ClassicalType>,
     t: Typing,
 ) -> Typing
-    requires { SinkFits t.sink × (t.next + 8 ≤ length sema.tree.now) }
-    ensures { Found (texts sema.entry) (operation_type case (span_at sema.entry.tree.now t.next) (typed_of l) (typed_of t.typed)) (t.next + 8) t.sink out.old result out.new }
+    requires { t.next + 8 ≤ length sema.texts.tree.now }
+    ensures { Found (texts sema.entry) (operation_type operator (span_at sema.entry.texts.tree.now t.next) (typed_of l) (typed_of t.typed)) (t.next + 8) t.sink out.old result out.new }
 {
     let next = t.next + 8;
     let sink = t.sink;
@@ -210,10 +217,10 @@ pub fn operation(
             sink,
         };
     };
-    let result = pair_type(case, a, b);
+    let result = pair_type(operator, a, b);
     let Some(ty) = result else {
-        let message = pair_message(case);
-        let span = span_at(sema.tree, t.next);
+        let message = pair_message(operator);
+        let span = span_at(sema.texts.tree, t.next);
         return refuse(sema, out, sink, message, span, next);
     };
     has_type(ty, next, sink)

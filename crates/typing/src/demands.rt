@@ -1,10 +1,9 @@
 // The type of an expression against what is asked of it.
 ghost use Rattle.std.specs.Prelude.{◌≡◌, ◌-◌, ◌≤◌, length};
 ghost use Rattle.tree.specs.Decode.{texts_of};
-ghost use Rattle.context.specs.Sink.{SinkFits};
 ghost use Rattle.context.specs.Values.{typed_of};
 ghost use Rattle.context.specs.Given.{texts};
-ghost use Rattle.context.specs.View.{TextsAt, span_at};
+ghost use Rattle.context.specs.View.{span_at};
 ghost use Rattle.promises.specs.Emitted.{Emitted};
 ghost use Rattle.typing.specs.Checks.{NamedBelow, meets, complaint, unmet};
 
@@ -37,8 +36,8 @@ fn complaint(wanted: Wanted, actual: ClassicalType) -> Message
 
 // An expression that was just checked; its span stands in its last 8 bytes.
 pub fn check_wanted(sema: SemaContext<'_>, out: &mut [u8], wanted: Wanted, t: Typing) -> Sink
-    requires { SinkFits t.sink × NamedBelow (length (texts sema)) wanted × (8 ≤ t.next) × (t.next ≤ length sema.tree.now) }
-    ensures { Emitted (texts sema.entry) (unmet wanted (span_at sema.entry.tree.now (t.next - 8)) (typed_of t.typed)) t.sink out.old result out.new }
+    requires { NamedBelow (length (texts sema)) wanted × (8 ≤ t.next) × (t.next ≤ length sema.texts.tree.now) }
+    ensures { Emitted (texts sema.entry) (unmet wanted (span_at sema.entry.texts.tree.now (t.next - 8)) (typed_of t.typed)) t.sink out.old result out.new }
 {
     let sink = t.sink;
     let found = t.typed;
@@ -48,12 +47,11 @@ pub fn check_wanted(sema: SemaContext<'_>, out: &mut [u8], wanted: Wanted, t: Ty
     if meets(wanted, actual) {
         return sink;
     }
-    let span = span_at(sema.tree, t.next - 8);
+    let span = span_at(sema.texts.tree, t.next - 8);
     lines::report(
         out,
         sink,
-        sema.tree,
-        sema.index,
+        sema.texts,
         error(complaint(wanted, actual), span),
     )
 }

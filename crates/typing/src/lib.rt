@@ -5,7 +5,9 @@ mod calls;
 mod cases;
 mod demands;
 
-ghost use Rattle.std.specs.Prelude.{◌≡◌, [], ◌+◌, ◌≤◌, ◌<◌, length, get_or};
+ghost use Rattle.std.specs.Prelude.{◌≡◌, ℕ, List, [], ◌+◌, ◌≤◌, ◌<◌, length, get_or};
+ghost use Rattle.std.specs.Borrow.{MutBor};
+ghost use Rattle.context.specs.declared.Sink.{Sink};
 ghost use Rattle.tree.specs.Ans.{IsOk, next_of, given};
 ghost use Rattle.tree.specs.Read.{option, vec};
 ghost use Rattle.tree.specs.Exprs.{expr, exprs};
@@ -13,7 +15,6 @@ ghost use Rattle.tree.specs.Stmts.{held, modifier};
 ghost use Rattle.tree.specs.Decode.{texts_of};
 ghost use Rattle.sema.specs.Exprs.{check_arguments, require_type, require_numeric, control_says, check_modifier, check_modifiers};
 ghost use Rattle.sema.specs.Stmts.{params_say};
-ghost use Rattle.context.specs.Sink.{SinkFits};
 ghost use Rattle.context.specs.Given.{texts, scopes, functions};
 ghost use Rattle.context.specs.View.{span_at, scopes_of, functions_of};
 ghost use Rattle.lines.specs.Values.{place_of, message_of, name_in, Below};
@@ -21,6 +22,7 @@ ghost use Rattle.tables.specs.Tables.{params_of};
 ghost use Rattle.promises.specs.Emitted.{Emitted};
 ghost use Rattle.promises.specs.Typings.{TypingOf, SaidOf, plain_context};
 ghost use Rattle.typing.specs.Checks.{NamedBelow, require_says};
+ghost use Rattle.typing.specs.Vecs.{CheckedTo};
 
 use accepted::exprs::skip_exprs;
 use accepted::numbers::{span_at, u16_at};
@@ -44,6 +46,13 @@ enum Wanted {
     Argument(ClassicalType, u64, usize),
 }
 
+// What stands between two operands: a binary operator or a comparison.
+#[derive(Clone, Copy)]
+enum Operator {
+    Arithmetic,
+    Comparison,
+}
+
 // The arguments of a call against the parameters of the function x.
 #[cycle(check_arguments_check_call_check_expr)]
 fn check_arguments(
@@ -55,12 +64,12 @@ fn check_arguments(
     params: usize,
     sink: Sink,
 ) -> Sink
-    requires { SinkFits sink × (x < length (texts sema)) × (params ≡ length (params_of (functions sema x))) × IsOk (exprs (expr (texts sema) left) sema.tree.now at) }
-    ensures { Emitted (texts sema.entry) (given [] (λ es. check_arguments (scopes sema.entry) (functions sema.entry) es x 0 (params_of (functions sema.entry x))) (exprs (expr (texts sema.entry) left) sema.entry.tree.now at)) sink out.old result out.new }
+    requires { (x < length (texts sema)) × (params ≡ length (params_of (functions sema x))) × IsOk (exprs (expr (texts sema) left) sema.texts.tree.now at) }
+    ensures { Emitted (texts sema.entry) (given [] (λ es. check_arguments (scopes sema.entry) (functions sema.entry) es x 0 (params_of (functions sema.entry x))) (exprs (expr (texts sema.entry) left) sema.entry.texts.tree.now at)) sink out.old result out.new }
 {
     let mut k = at + 1;
     let mut s = sink;
-    for i in 0..usize::from(sema.tree[at]) {
+    for i in 0..usize::from(sema.texts.tree[at]) {
         let t = check_expr(sema, out, k, left, s);
         s = calls::check_argument(sema, out, x, params, i, t);
         k = t.next;
@@ -70,14 +79,14 @@ fn check_arguments(
 
 #[cycle(check_arguments_check_call_check_expr)]
 fn check_call(sema: SemaContext<'_>, out: &mut [u8], at: usize, left: usize, sink: Sink) -> Typing
-    requires { SinkFits sink × IsOk (expr (texts sema) left sema.tree.now at) × (get_or sema.tree.now at 0 ≡ 5) }
-    ensures { TypingOf (texts sema.entry) (scopes sema.entry) (functions sema.entry) (expr (texts sema.entry) left sema.entry.tree.now at) sink out.old result out.new }
+    requires { IsOk (expr (texts sema) left sema.texts.tree.now at) × (get_or sema.texts.tree.now at 0 ≡ 5) }
+    ensures { TypingOf (texts sema.entry) (scopes sema.entry) (functions sema.entry) (expr (texts sema.entry) left sema.entry.texts.tree.now at) sink out.old result out.new }
 {
-    let x = u16_at(sema.tree, at + 1);
-    let end = skip_exprs(sema.tree, at + 3, left - 1);
-    let span = span_at(sema.tree, end);
+    let x = u16_at(sema.texts.tree, at + 1);
+    let end = skip_exprs(sema.texts.tree, at + 3, left - 1);
+    let span = span_at(sema.texts.tree, end);
     let next = end + 8;
-    let n = usize::from(sema.tree[at + 3]);
+    let n = usize::from(sema.texts.tree[at + 3]);
     let f = calls::check_callee(sema, out, x, n, span, sink);
     let said = f.sink;
     let after = check_arguments(sema, out, at + 3, left - 1, x, f.params, said);
@@ -98,10 +107,10 @@ pub fn check_expr(
     left: usize,
     sink: Sink,
 ) -> Typing
-    requires { SinkFits sink × IsOk (expr (texts sema) left sema.tree.now at) }
-    ensures { TypingOf (texts sema.entry) (scopes sema.entry) (functions sema.entry) (expr (texts sema.entry) left sema.entry.tree.now at) sink out.old result out.new }
+    requires { IsOk (expr (texts sema) left sema.texts.tree.now at) }
+    ensures { TypingOf (texts sema.entry) (scopes sema.entry) (functions sema.entry) (expr (texts sema.entry) left sema.entry.texts.tree.now at) sink out.old result out.new }
 {
-    match sema.tree[at] {
+    match sema.texts.tree[at] {
         0 => cases::has_type(ClassicalType::Int, at + 17, sink),
         1 => cases::has_type(ClassicalType::Float, at + 11, sink),
         2 => cases::has_type(ClassicalType::Bool, at + 10, sink),
@@ -118,15 +127,16 @@ pub fn check_expr(
             let said = l.sink;
             let r = check_expr(sema, out, l.next, left - 1, said);
             let lhs = l.typed;
-            cases::operation(sema, out, sema.tree[at], lhs, r)
+            let operator = cases::operator(sema.texts.tree[at]);
+            cases::operation(sema, out, operator, lhs, r)
         }
     }
 }
 
 // An expression whose type must be as it is wanted.
 fn require(sema: SemaContext<'_>, out: &mut [u8], at: usize, wanted: Wanted, sink: Sink) -> After
-    requires { SinkFits sink × IsOk (held (texts sema) sema.tree.now at) × NamedBelow (length (texts sema)) wanted }
-    ensures { SaidOf (texts sema.entry) (require_says (scopes sema.entry) (functions sema.entry) wanted) (held (texts sema.entry) sema.entry.tree.now at) sink out.old result out.new }
+    requires { IsOk (held (texts sema) sema.texts.tree.now at) × NamedBelow (length (texts sema)) wanted }
+    ensures { SaidOf (texts sema.entry) (require_says (scopes sema.entry) (functions sema.entry) wanted) (held (texts sema.entry) sema.entry.texts.tree.now at) sink out.old result out.new }
 {
     let t = check_expr(sema, out, at, 32, sink);
     let next = t.next;
@@ -143,8 +153,8 @@ pub fn require_type(
     place: Place,
     sink: Sink,
 ) -> After
-    requires { SinkFits sink × IsOk (held (texts sema) sema.tree.now at) }
-    ensures { SaidOf (texts sema.entry) (λ e. require_type (scopes sema.entry) (functions sema.entry) e expected (place_of place)) (held (texts sema.entry) sema.entry.tree.now at) sink out.old result out.new }
+    requires { IsOk (held (texts sema) sema.texts.tree.now at) }
+    ensures { SaidOf (texts sema.entry) (λ e. require_type (scopes sema.entry) (functions sema.entry) e expected (place_of place)) (held (texts sema.entry) sema.entry.texts.tree.now at) sink out.old result out.new }
 {
     require(sema, out, at, Wanted::Assignable(expected, place), sink)
 }
@@ -157,18 +167,18 @@ pub fn require_numeric(
     message: Message,
     sink: Sink,
 ) -> After
-    requires { SinkFits sink × IsOk (held (texts sema) sema.tree.now at) × Below (length (texts sema)) (name_in message) }
-    ensures { SaidOf (texts sema.entry) (λ e. require_numeric (scopes sema.entry) (functions sema.entry) e (message_of message)) (held (texts sema.entry) sema.entry.tree.now at) sink out.old result out.new }
+    requires { IsOk (held (texts sema) sema.texts.tree.now at) × Below (length (texts sema)) (name_in message) }
+    ensures { SaidOf (texts sema.entry) (λ e. require_numeric (scopes sema.entry) (functions sema.entry) e (message_of message)) (held (texts sema.entry) sema.entry.texts.tree.now at) sink out.old result out.new }
 {
     require(sema, out, at, Wanted::Numeric(message), sink)
 }
 
 // The Option of a count that a control holds; the control's span stands behind it.
 fn check_control(sema: SemaContext<'_>, out: &mut [u8], at: usize, sink: Sink) -> After
-    requires { SinkFits sink × IsOk (option (held (texts sema)) sema.tree.now at) × (next_of (option (held (texts sema)) sema.tree.now at) + 8 ≤ length sema.tree.now) }
-    ensures { SaidOf (texts sema.entry) (λ arg. control_says (scopes sema.entry) (functions sema.entry) arg (span_at sema.entry.tree.now (next_of (option (held (texts sema.entry)) sema.entry.tree.now at)))) (option (held (texts sema.entry)) sema.entry.tree.now at) sink out.old result out.new }
+    requires { IsOk (option (held (texts sema)) sema.texts.tree.now at) × (next_of (option (held (texts sema)) sema.texts.tree.now at) + 8 ≤ length sema.texts.tree.now) }
+    ensures { SaidOf (texts sema.entry) (λ arg. control_says (scopes sema.entry) (functions sema.entry) arg (span_at sema.entry.texts.tree.now (next_of (option (held (texts sema.entry)) sema.entry.texts.tree.now at)))) (option (held (texts sema.entry)) sema.entry.texts.tree.now at) sink out.old result out.new }
 {
-    if sema.tree[at] == 0 {
+    if sema.texts.tree[at] == 0 {
         return After { next: at + 1, sink };
     }
     let a = require_type(
@@ -181,26 +191,20 @@ fn check_control(sema: SemaContext<'_>, out: &mut [u8], at: usize, sink: Sink) -
     );
     let next = a.next;
     let said = a.sink;
-    let e = constants::eval_const_int(sema.tree, at + 1, 32);
+    let e = constants::eval_const_int(sema.texts.tree, at + 1, 32);
     if constants::is_count(e.value) {
         return After { next, sink: said };
     }
-    let span = span_at(sema.tree, next);
-    let after = lines::report(
-        out,
-        said,
-        sema.tree,
-        sema.index,
-        error(Message::ControlCount, span),
-    );
+    let span = span_at(sema.texts.tree, next);
+    let after = lines::report(out, said, sema.texts, error(Message::ControlCount, span));
     After { next, sink: after }
 }
 
 fn check_modifier(sema: SemaContext<'_>, out: &mut [u8], at: usize, sink: Sink) -> After
-    requires { SinkFits sink × IsOk (modifier (texts sema) sema.tree.now at) }
-    ensures { SaidOf (texts sema.entry) (check_modifier (scopes sema.entry) (functions sema.entry)) (modifier (texts sema.entry) sema.entry.tree.now at) sink out.old result out.new }
+    requires { IsOk (modifier (texts sema) sema.texts.tree.now at) }
+    ensures { SaidOf (texts sema.entry) (check_modifier (scopes sema.entry) (functions sema.entry)) (modifier (texts sema.entry) sema.entry.texts.tree.now at) sink out.old result out.new }
 {
-    match sema.tree[at] {
+    match sema.texts.tree[at] {
         2 => After { next: at + 9, sink },
         3 => {
             let a = require_numeric(sema, out, at + 1, Message::PowerNumeric, sink);
@@ -221,32 +225,48 @@ fn check_modifier(sema: SemaContext<'_>, out: &mut [u8], at: usize, sink: Sink) 
     }
 }
 
-// A Vec of modifiers.
-pub fn check_modifiers(sema: SemaContext<'_>, out: &mut [u8], at: usize, sink: Sink) -> After
-    requires { SinkFits sink × IsOk (vec (modifier (texts sema)) sema.tree.now at) }
-    ensures { SaidOf (texts sema.entry) (check_modifiers (scopes sema.entry) (functions sema.entry)) (vec (modifier (texts sema.entry)) sema.entry.tree.now at) sink out.old result out.new }
+// A Vec whose values are checked one by one.
+fn check_vec<F: Fn(&mut [u8], usize, Sink) -> After>(
+    tree: &[u8],
+    out: &mut [u8],
+    at: usize,
+    sink: Sink,
+    check: F,
+) -> After
+    requires at_in_bounds { at < length tree.now }
+    requires callable { (i k : ℕ) (s : Sink) (o : List ℕ) → i < get_or tree.now at 0 → CheckedTo (F.post check) i (at + 1) sink out.old k s o → (b : MutBor (List ℕ)) → b.now ≡ o → F.pre check b k s }
+    ensures { CheckedTo (F.post check) (get_or tree.now at 0) (at + 1) sink out.old result.next result.sink out.new }
 {
     let mut next = at + 1;
     let mut s = sink;
-    for _ in 0..sema.tree[at] {
-        let a = check_modifier(sema, out, next, s);
+    for _ in 0..tree[at] {
+        let a = check(out, next, s);
         next = a.next;
         s = a.sink;
     }
     After { next, sink: s }
 }
 
+// A Vec of modifiers.
+pub fn check_modifiers(sema: SemaContext<'_>, out: &mut [u8], at: usize, sink: Sink) -> After
+    requires { IsOk (vec (modifier (texts sema)) sema.texts.tree.now at) }
+    ensures { SaidOf (texts sema.entry) (check_modifiers (scopes sema.entry) (functions sema.entry)) (vec (modifier (texts sema.entry)) sema.entry.texts.tree.now at) sink out.old result out.new }
+{
+    check_vec(
+        sema.texts.tree,
+        out,
+        at,
+        sink,
+        |out, k, s| check_modifier(sema, out, k, s),
+    )
+}
+
 // A Vec of gate parameters.
 pub fn check_params(sema: SemaContext<'_>, out: &mut [u8], at: usize, sink: Sink) -> After
-    requires { SinkFits sink × IsOk (exprs (held (texts sema)) sema.tree.now at) }
-    ensures { SaidOf (texts sema.entry) (params_say (plain_context (scopes sema.entry) (functions sema.entry))) (exprs (held (texts sema.entry)) sema.entry.tree.now at) sink out.old result out.new }
+    requires { IsOk (exprs (held (texts sema)) sema.texts.tree.now at) }
+    ensures { SaidOf (texts sema.entry) (params_say (plain_context (scopes sema.entry) (functions sema.entry))) (exprs (held (texts sema.entry)) sema.entry.texts.tree.now at) sink out.old result out.new }
 {
-    let mut next = at + 1;
-    let mut s = sink;
-    for _ in 0..sema.tree[at] {
-        let a = require_numeric(sema, out, next, Message::ParamsNumeric, s);
-        next = a.next;
-        s = a.sink;
-    }
-    After { next, sink: s }
+    check_vec(sema.texts.tree, out, at, sink, |out, k, s| {
+        require_numeric(sema, out, k, Message::ParamsNumeric, s)
+    })
 }

@@ -8,7 +8,6 @@ use Rattle.sema.specs.Messages.{Error, Warning}
 use Rattle.sema.specs.Stmts.{analyze}
 use Rattle.listing.specs.Listing.{ended, spaced, count_of}
 use Rattle.context.specs.declared.Sink.{Sink}
-use Rattle.context.specs.Sink.{SinkFits}
 use Rattle.lines.specs.EmitLaws.{all_bytes}
 use Rattle.answer.specs.Answer.{Answer, accepted, refusal}
 use Rattle.refusal.specs.declared.Refused.{Refused}
@@ -35,7 +34,6 @@ pub record Learnt (p : Program) (r : Sink) : Type 0 where
   pub errors : length (analyze p) ≤ diagnostic_limit → r.errors ≡ count_of Error (analyze p)
   pub warnings : length (analyze p) ≤ diagnostic_limit → r.warnings ≡ count_of Warning (analyze p)
   pub bytes : length (analyze p) ≤ diagnostic_limit → r.n ≡ length (all_bytes p.texts (analyze p))
-  pub fits : SinkFits r
 
 -- neither too many diagnostics nor too little room for the first line and the lines behind it
 pub record Listable (sink : Sink) (room : ℕ) : Type 0 where

@@ -1,11 +1,10 @@
 // The answer to a program by what its first walk learnt, and the listing from lines that were kept.
 #![tactic(auto)]
 
-ghost use Rattle.std.specs.Prelude.{◌≡◌, true, ◌+◌, ◌≤◌, length, take};
+ghost use Rattle.std.specs.Prelude.{◌≡◌, true, ◌+◌, ◌≤◌, length};
 ghost use Rattle.std.proofs.lemmas.List.Edits.{sets};
 ghost use Rattle.ast.specs.Tree.{Program};
 ghost use Rattle.sema.specs.Stmts.{analyze};
-ghost use Rattle.context.specs.Sink.{SinkFits};
 ghost use Rattle.answer.specs.Answer.{judge_diagnostics};
 ghost use Rattle.verdict.specs.Verdict.{answer_of, is_accepted, head_of, Learnt, Listable};
 
@@ -32,7 +31,6 @@ fn head_size(sink: Sink) -> usize
 
 // By the counts and the length of the lines, for a listing buffer of so many bytes.
 pub fn judge(sink: Sink, room: usize) -> Answer
-    requires { SinkFits sink }
     ensures answers { (p : Program) → Learnt p sink → answer_of result ≡ judge_diagnostics room p (analyze p) }
     ensures fits { is_accepted (answer_of result) ≡ true → Listable sink room }
 {
@@ -56,12 +54,10 @@ pub fn judge(sink: Sink, room: usize) -> Answer
 }
 
 // The lines that a stage had room for, behind the first line.
-pub fn write_staged(stage: &[u8], listing: &mut [u8], sink: Sink)
-    requires { (sink.n ≤ length stage.now) × (length (head_of sink.errors sink.warnings) + sink.n ≤ length listing.old) }
-    ensures { listing.new ≡ sets (sets listing.old 0 (head_of sink.errors sink.warnings)) (length (head_of sink.errors sink.warnings)) (take sink.n stage.now) }
+pub fn write_staged(staged: &[u8], listing: &mut [u8], errors: u16, warnings: u16)
+    requires { length (head_of errors warnings) + length staged.now ≤ length listing.old }
+    ensures { listing.new ≡ sets (sets listing.old 0 (head_of errors warnings)) (length (head_of errors warnings)) staged.now }
 {
-    // std has no From<u32> for usize.
-    let n = sink.n as usize;
-    let after = lines::first_line(listing, sink.errors, sink.warnings);
-    listing[after..after + n].copy_from_slice(&stage[..n]);
+    let after = lines::first_line(listing, errors, warnings);
+    listing[after..after + staged.len()].copy_from_slice(staged);
 }

@@ -17,6 +17,7 @@ use Rattle.sema.specs.Keys.{keys_stmt, keys_stmts, keys_else}
 use Rattle.sema.specs.Exprs.{require_type}
 use Rattle.sema.specs.Stmts.{SemaContext, enter, analyze_stmt, analyze_stmts, analyze_else}
 use Rattle.context.specs.declared.State.{State}
+use Rattle.std.specs.Prelude.{Option, Some, None}
 use Rattle.context.specs.View.{span_at, keys_in, scopes_of, functions_of, context_of}
 use Rattle.accepted.specs.Cases.{blank}
 use Rattle.accepted.specs.Parts.{value_or, given_is, given_ok}
@@ -26,7 +27,7 @@ use Rattle.promises.specs.Emitted.{emitted_then, emitted_as}
 use Rattle.sheet.specs.Behind.{Blank}
 use Rattle.promises.specs.Walks.{Walked, StmtWalked, BodyWalked}
 use Rattle.promises.specs.Went.{stmt_keys, else_keys, StmtAsked, BodyAsked, Went, StmtWent, BodyWent}
-use Rattle.promises.specs.WentLaws.{Longer, longer_as, longer_length, stmts_longer, other_longer, else_longer, walked_longer, blank-keys, blank_longer, walkable_longer, went_over, within}
+use Rattle.promises.specs.WentLaws.{Longer, longer_as, longer_length, stmts_longer, other_longer, else_longer, walked_longer, blank-keys, blank_longer, walkable_longer, went_over}
 use Rattle.promises.specs.WalkLaws.{stmt-walked}
 use Rattle.bodies.specs.Opened.{ConditionOpened}
 use Rattle.walk.specs.Bodies.{walk_else, ElseAsked, ElseWalked, ElseWent}
@@ -86,124 +87,129 @@ module _ {tree index : List ℕ} {left : ℕ} {st : State} {s : List ℕ} (a : S
     pub then-below : {n : ℕ} → 2 * (length tree - st.at) ≡ n → (2 * (length tree - i.at) < n) × BodyAsked tree index (left - 1) i s'
     then-below = held_below then-holds p a
 
-    module _ {w : State} {index₁ s'' o'' : List ℕ} (v : BodyWent tree (left - 1) i index s' o' w index₁ s'' o'') where
-      -- of the `then` body
-      then_went : Went index index₁ (then_keys (scopes_of s (9 - left)) (keys_in index st.keys)) s s'' w (BodyWalked tree index₁ w.keys (left - 1) i s' o' w s'' o'')
-      then_went = held_went then-holds p a v w refl (λ m x. x) (λ m x. x)
+    -- of the `then` body
+    then_went : {w : Option State} {index₁ s'' o'' : List ℕ} → BodyWent tree (left - 1) i index s' o' w index₁ s'' o''
+        → Went index index₁ (then_keys (scopes_of s (9 - left)) (keys_in index st.keys)) s s'' w (λ x. BodyWalked tree index₁ x.keys (left - 1) i s' o' x s'' o'')
+    then_went v = held_went then-holds p a v
 
-      -- the walk has stopped in it
-      pub then-over : w.keys ≡ 257 → {o''' : List ℕ} → StmtWent tree left st index s o w index₁ s'' o'''
-      then-over e =
-          let ss = scopes_of s (9 - left) in
-          went_over then_went e _ (rw (if-keys ss (keys_in index st.keys)) (longer_length (other_longer ss _ else_rest))) _
+    -- the walk has stopped in it
+    pub then-over : {index₁ s'' o'' : List ℕ} → BodyWent tree (left - 1) i index s' o' None index₁ s'' o'' → StmtWent tree left st index s o None index₁ s'' o''
+    then-over v =
+        let ss = scopes_of s (9 - left) in
+        went_over (then_went v) _ (rw (if-keys ss (keys_in index st.keys)) (longer_length (other_longer ss _ else_rest))) _
 
-      module _ (u : w.keys ≡ 257 → ⊥) where
-        few : w.keys ≤ key_limit
-        few = within v.added u
+    module _ {w : State} {index₁ s'' o'' : List ℕ} (v : BodyWent tree (left - 1) i index s' o' (Some w) index₁ s'' o'') where
+      few : w.keys ≤ key_limit
+      few = v.grown.1
 
-        walked_then : Walked tree t (keys_in index₁ w.keys) (suc (9 - left)) (analyze_stmts t then_rest) else_at i s' o' w s'' o''
-        walked_then = body-walked tree index₁ w.keys left left-some a.shallow _ i p.at if-body (λ x. x) (λ n. n) (v.walked few)
+      added : keys_in index₁ w.keys ≡ then_keys (scopes_of s (9 - left)) (keys_in index st.keys)
+      added = (then_went v).grown.0
 
-        -- the scopes of the `if` are as they were
-        then_scopes : scopes_of s'' (9 - left) ≡ scopes_of s (9 - left)
-        then_scopes = walked_then.below (9 - left) (omega arith) ∙ opened-below p (9 - left) (omega arith)
+      walked_then : Walked tree t (keys_in index₁ w.keys) (suc (9 - left)) (analyze_stmts t then_rest) else_at i s' o' w s'' o''
+      walked_then = body-walked tree index₁ w.keys left left-some a.shallow _ i p.at if-body (λ x. x) (λ n. n) v.reached.0
 
-        else_at_lem : w.at ≡ else_at
-        else_at_lem = walked_then.at
+      -- the scopes of the `if` are as they were
+      then_scopes : scopes_of s'' (9 - left) ≡ scopes_of s (9 - left)
+      then_scopes = walked_then.below (9 - left) (omega arith) ∙ opened-below p (9 - left) (omega arith)
 
-        -- the sheet of the entry is blank behind the keys of the `then` body as well
-        entry_blank : Blank w.keys st.marks
-        entry_blank = blank_longer (stmts_longer (empty ∷ scopes_of s (9 - left)) (keys_in index st.keys) then_rest) then_went.added few a.blank
+      else_at_lem : w.at ≡ else_at
+      else_at_lem = walked_then.at
 
-        -- what the `else` asks
-        pub else_below : {n : ℕ} → 2 * (length tree - st.at) ≡ n → (2 * (length tree - w.at) < n) × ElseAsked tree index₁ left st.marks w s''
-        else_below e =
-            let held : IsOk (else_body (stmt t (left - 1)) tree w.at) = rw else_at_lem if_else in (
-              omega (arith, else_at_lem, if-further tree left st.at h b, body_forward _ _ _ _ if-body, else_in _ _ _ held),
-              record {
-                some = left-some;
-                asked = record {
-                  walkable = walkable_longer a.walkable (stmts_longer (empty ∷ scopes_of s (9 - left)) (keys_in index st.keys) then_rest) then_went.added v.index-length few;
-                  ready = record { room = omega (arith, v.scratch-length, p.becomes.same_length, a.ready.room); few = walked_then.few; placed = a.ready.placed; fits = walked_then.emitted.fits };
-                  accepted = held;
-                  shallow = a.shallow;
-                  blank = entry_blank;
-                };
-                placed = walked_then.placed;
-                blank = v.behind few;
-              },
-            )
+      -- the sheet of the entry is blank behind the keys of the `then` body as well
+      entry_blank : Blank w.keys st.marks
+      entry_blank = blank_longer index index₁ (stmts_longer (empty ∷ scopes_of s (9 - left)) (keys_in index st.keys) then_rest) added a.blank
 
-        module _ {f : State} {index₂ s''' o''' : List ℕ} (g : ElseWent tree left st.marks w index₁ s'' o'' f index₂ s''' o''') where
-          else_keys_lem : else_keys (else_body (stmt t (left - 1)) tree w.at) (scopes_of s'' (9 - left)) (keys_in index₁ w.keys) ≡ stmt_keys (stmt t left tree st.at) (scopes_of s (9 - left)) (keys_in index st.keys)
-          else_keys_lem =
-              rw (else_at_lem, then_scopes, then_went.added.keys few)
-              (given_ok no_else _ (λ e. keys_else e (scopes_of s (9 - left)) (then_keys (scopes_of s (9 - left)) (keys_in index st.keys))) (else_body (stmt t (left - 1)) tree else_at) if_else ∙ sym (if-keys (scopes_of s (9 - left)) (keys_in index st.keys)))
+      -- what the `else` asks
+      pub else_below : {n : ℕ} → 2 * (length tree - st.at) ≡ n → (2 * (length tree - w.at) < n) × ElseAsked tree index₁ left st.marks w s''
+      else_below e =
+          let held : IsOk (else_body (stmt t (left - 1)) tree w.at) = rw else_at_lem if_else in (
+            omega (arith, else_at_lem, if-further tree left st.at h b, body_forward _ _ _ _ if-body, else_in _ _ _ held),
+            record {
+              some = left-some;
+              asked = record {
+                walkable = walkable_longer a.walkable (stmts_longer (empty ∷ scopes_of s (9 - left)) (keys_in index st.keys) then_rest) added v.index-length few;
+                ready = record { room = omega (arith, v.scratch-length, p.becomes.same_length, a.ready.room); few = walked_then.few; placed = a.ready.placed };
+                accepted = held;
+                shallow = a.shallow;
+                blank = entry_blank;
+              };
+              placed = walked_then.placed;
+              blank = v.reached.1;
+            },
+          )
 
-          -- the `if` was walked over, or the walk has stopped
-          else_went : (r : State) → r.keys ≡ f.keys → (f.keys ≤ key_limit → StmtWalked tree index₂ r.keys left st s o r s''' o''') → (f.keys ≤ key_limit → Blank r.keys r.marks) → StmtWent tree left st index s o r index₂ s''' o'''
-          else_went r e y z =
-              let a = rw else_keys_lem at g.added in
-              record {
-                added = rw e (record { counted = a.counted; keys = a.keys; texts = a.texts ∙ v.added.texts });
-                index-length = g.index-length ∙ v.index-length;
-                scratch-length = g.scratch-length ∙ then_went.scratch-length;
-                scratch-rest = g.scratch-rest ∙ then_went.scratch-rest;
-                walked = λ m. y (rw e at m);
-                behind = λ m. z (rw e at m);
-              }
+      -- the keys of the `else` are those of the `if`
+      else_keys_lem : else_keys (else_body (stmt t (left - 1)) tree w.at) (scopes_of s'' (9 - left)) (keys_in index₁ w.keys) ≡ stmt_keys (stmt t left tree st.at) (scopes_of s (9 - left)) (keys_in index st.keys)
+      else_keys_lem =
+          rw (else_at_lem, then_scopes, added)
+          (given_ok no_else _ (λ e. keys_else e (scopes_of s (9 - left)) (then_keys (scopes_of s (9 - left)) (keys_in index st.keys))) (else_body (stmt t (left - 1)) tree else_at) if_else ∙ sym (if-keys (scopes_of s (9 - left)) (keys_in index st.keys)))
 
-          pub else_over : f.keys ≡ 257 → StmtWent tree left st index s o f index₂ s''' o'''
-          else_over e = else_went f refl (λ m. absurd (omega arith)) (λ m. absurd (omega arith))
+      -- the walk has stopped in the `else`
+      pub else_over : {index₂ s''' o''' : List ℕ} → ElseWent tree left st.marks w index₁ s'' o'' None index₂ s''' o''' → StmtWent tree left st index s o None index₂ s''' o'''
+      else_over g =
+          record {
+            grown = rw else_keys_lem at g.grown;
+            index-length = g.index-length ∙ v.index-length;
+            scratch-length = g.scratch-length ∙ (then_went v).scratch-length;
+            scratch-rest = g.scratch-rest ∙ (then_went v).scratch-rest;
+            reached = tt;
+          }
 
-          module _ (u₂ : f.keys ≡ 257 → ⊥) where
-            few₂ : f.keys ≤ key_limit
-            few₂ = within g.added u₂
+      module _ {f : State} {index₂ s''' o''' : List ℕ} (g : ElseWent tree left st.marks w index₁ s'' o'' (Some f) index₂ s''' o''') where
+        few₂ : f.keys ≤ key_limit
+        few₂ = g.grown.1
 
-            abbrev ks : List Key
-            ks = keys_in index₂ f.keys
+        abbrev ks : List Key
+        ks = keys_in index₂ f.keys
 
-            walked_else : ElseWalked tree ks left st.marks w s'' o'' f s''' o'''
-            walked_else = g.walked few₂
+        walked_else : ElseWalked tree ks left st.marks w s'' o'' f s''' o'''
+        walked_else = g.reached.0
 
-            pub if-room : f.at + 8 ≤ length tree
-            if-room = let n = branch-inside t left tree st.at h b _ refl _ refl _ refl in rw (walked_else.at, else_at_lem) n
+        pub if-room : f.at + 8 ≤ length tree
+        if-room = let n = branch-inside t left tree st.at h b _ refl _ refl _ refl in rw (walked_else.at, else_at_lem) n
 
-            -- the `then` body, with the keys of the `else` as well
-            after_longer : Longer (keys_in index₁ w.keys) ks
-            after_longer = longer_as (sym (g.added.keys few₂)) (else_longer (scopes_of s'' (9 - left)) (keys_in index₁ w.keys) (else_body (stmt t (left - 1)) tree w.at))
+        -- the `then` body, with the keys of the `else` as well
+        after_longer : Longer (keys_in index₁ w.keys) ks
+        after_longer = longer_as (sym g.grown.0) (else_longer (scopes_of s'' (9 - left)) (keys_in index₁ w.keys) (else_body (stmt t (left - 1)) tree w.at))
 
-            then-again : Walked tree t ks (suc (9 - left)) (analyze_stmts t then_rest) else_at i s' o' w s'' o''
-            then-again = walked_longer after_longer (blank-keys index₁ (rw p.marks entry_blank)) (blank-keys index₁ (v.behind few)) walked_then
+        then-again : Walked tree t ks (suc (9 - left)) (analyze_stmts t then_rest) else_at i s' o' w s'' o''
+        then-again = walked_longer after_longer (blank-keys index₁ (rw p.marks entry_blank)) (blank-keys index₁ v.reached.1) walked_then
 
-            abbrev c : SemaContext
-            c = context_of tree ks s (9 - left) st.marks
+        abbrev c : SemaContext
+        c = context_of tree ks s (9 - left) st.marks
 
-            -- what the analysis makes of the `else`
-            else_walk : walk_else t (context_of tree ks s'' (suc (9 - left)) w.marks) (else_body (stmt t (left - 1)) tree w.at) (context_of tree ks s'' (9 - left) st.marks) ≡ analyze_else t else_rest c (analyze_stmts t then_rest (enter empty c)).0
-            else_walk =
-                rw (else_at_lem, given_ok no_else (context_of tree ks s'' (9 - left) st.marks, []) (λ g. analyze_else t g (context_of tree ks s'' (9 - left) st.marks) (context_of tree ks s'' (suc (9 - left)) w.marks)) (else_body (stmt t (left - 1)) tree else_at) if_else)
-                (else_same t else_rest (context_of tree ks s'' (9 - left) st.marks) c (context_of tree ks s'' (suc (9 - left)) w.marks) then_scopes refl
-                ∙ ap (analyze_else t else_rest c) (ended_context tree ks p (analyze_stmts t then_rest) then-again))
+        -- what the analysis makes of the `else`
+        else_walk : walk_else t (context_of tree ks s'' (suc (9 - left)) w.marks) (else_body (stmt t (left - 1)) tree w.at) (context_of tree ks s'' (9 - left) st.marks) ≡ analyze_else t else_rest c (analyze_stmts t then_rest (enter empty c)).0
+        else_walk =
+            rw (else_at_lem, given_ok no_else (context_of tree ks s'' (9 - left) st.marks, []) (λ g. analyze_else t g (context_of tree ks s'' (9 - left) st.marks) (context_of tree ks s'' (suc (9 - left)) w.marks)) (else_body (stmt t (left - 1)) tree else_at) if_else)
+            (else_same t else_rest (context_of tree ks s'' (9 - left) st.marks) c (context_of tree ks s'' (suc (9 - left)) w.marks) then_scopes refl
+            ∙ ap (analyze_else t else_rest c) (ended_context tree ks p (analyze_stmts t then_rest) then-again))
 
-            if-walked : (r : State) → r.at ≡ f.at + 8 → r.sink ≡ f.sink → r.marks ≡ f.marks → StmtWalked tree index₂ f.keys left st s o r s''' o'''
-            unfolding analyze_stmt
-            if-walked r a d m =
-                let q = walked_else in
-                let g = given_ok blank [] (λ e. require_type (scopes_of s (9 - left)) (functions_of s) e ClassicalType.Bool Messages.if_condition) (held t tree (st.at + 1)) (branch-condition t left tree st.at h b) in
-                let u = emitted_as then-again.emitted (ap (λ x. (analyze_stmts t then_rest x).1) (opened_context tree ks p)) in
-                let n = emitted_as q.emitted (ap (λ x. x.1) else_walk) in
-                stmt-walked tree index₂ f.keys left st if_is
-                (record {
-                  at = a ∙ ap (λ (k : ℕ). k + 8) (q.at ∙ ap (λ (k : ℕ). next_of (else_body (stmt t (left - 1)) tree k)) else_at_lem);
-                  goes = ap (λ k. context_of tree ks s''' (9 - left) k) m ∙ q.goes ∙ ap (λ x. x.0) else_walk;
-                  emitted = rw d (emitted_then (emitted_as p.emitted g) (emitted_then u n));
-                  below = λ k j. q.below k j ∙ walked_then.below k (omega arith) ∙ opened-below p k (omega arith);
-                  same_length = q.same_length ∙ walked_then.same_length ∙ p.becomes.same_length;
-                  same_rest = q.same_rest ∙ walked_then.same_rest ∙ p.becomes.same_rest;
-                  few = q.few;
-                  placed = rw m q.placed;
-                })
+        if-walked : (r : State) → r.at ≡ f.at + 8 → r.sink ≡ f.sink → r.marks ≡ f.marks → StmtWalked tree index₂ f.keys left st s o r s''' o'''
+        unfolding analyze_stmt
+        if-walked r a d m =
+            let q = walked_else in
+            let g = given_ok blank [] (λ e. require_type (scopes_of s (9 - left)) (functions_of s) e ClassicalType.Bool Messages.if_condition) (held t tree (st.at + 1)) (branch-condition t left tree st.at h b) in
+            let u = emitted_as then-again.emitted (ap (λ x. (analyze_stmts t then_rest x).1) (opened_context tree ks p)) in
+            let n = emitted_as q.emitted (ap (λ x. x.1) else_walk) in
+            stmt-walked tree index₂ f.keys left st if_is
+            (record {
+              at = a ∙ ap (λ (k : ℕ). k + 8) (q.at ∙ ap (λ (k : ℕ). next_of (else_body (stmt t (left - 1)) tree k)) else_at_lem);
+              goes = ap (λ k. context_of tree ks s''' (9 - left) k) m ∙ q.goes ∙ ap (λ x. x.0) else_walk;
+              emitted = rw d (emitted_then (emitted_as p.emitted g) (emitted_then u n));
+              below = λ k j. q.below k j ∙ walked_then.below k (omega arith) ∙ opened-below p k (omega arith);
+              same_length = q.same_length ∙ walked_then.same_length ∙ p.becomes.same_length;
+              same_rest = q.same_rest ∙ walked_then.same_rest ∙ p.becomes.same_rest;
+              few = q.few;
+              placed = rw m q.placed;
+            })
 
-            pub if_went : (r : State) → r.at ≡ f.at + 8 → r.sink ≡ f.sink → r.keys ≡ f.keys → r.marks ≡ f.marks → StmtWent tree left st index s o r index₂ s''' o'''
-            if_went r a d e m = else_went r e (λ n. subst (λ (k : ℕ). StmtWalked tree index₂ k left st s o r s''' o''') (sym e) (if-walked r a d m)) (λ n. rw (e, m) (g.behind n))
+        pub if_went : (r : State) → r.at ≡ f.at + 8 → r.sink ≡ f.sink → r.keys ≡ f.keys → r.marks ≡ f.marks → StmtWent tree left st index s o (Some r) index₂ s''' o'''
+        if_went r a d e m =
+            record {
+              grown = rw e (rw else_keys_lem at g.grown.0, few₂);
+              index-length = g.index-length ∙ v.index-length;
+              scratch-length = g.scratch-length ∙ (then_went v).scratch-length;
+              scratch-rest = g.scratch-rest ∙ (then_went v).scratch-rest;
+              reached = (subst (λ (k : ℕ). StmtWalked tree index₂ k left st s o r s''' o''') (sym e) (if-walked r a d m), rw (e, m) g.reached.1);
+            }

@@ -15,8 +15,7 @@ use Rattle.sema.specs.Marks.{Key, Marks}
 use Rattle.sema.specs.Stmts.{SemaContext, leave, analyze_stmts, analyze_else}
 use Rattle.context.specs.declared.After.{After}
 use Rattle.context.specs.declared.State.{State}
-use Rattle.context.specs.Sink.{SinkFits}
-use Rattle.context.specs.View.{TextsAt, Placed, keys_in, scopes_of, functions_of, marks_of, context_of}
+use Rattle.context.specs.View.{Placed, keys_in, scopes_of, functions_of, marks_of, context_of}
 use Rattle.tables.specs.Laws.{few-after}
 use Rattle.accepted.specs.Parts.{value_or, given_ok}
 use Rattle.scopes.specs.Laws.{entered_below}
@@ -32,8 +31,8 @@ level left a b = omega arith
 
 -- what is asked before a body
 pub open_asked : {tree index : List ℕ} {left : ℕ} {st : State} {s : List ℕ} {case : Type 0} → StmtAsked tree index left st s × case
-    → TextsAt tree index × (length tree ≤ file_limit) × (65536 ≤ length s) × SinkFits st.sink × IsOk (stmt (texts_of tree) left tree st.at) × (left ≤ 8) × case
-open_asked a = let p = a.0 in (p.walkable.texts, p.walkable.small, p.ready.room, p.ready.fits, p.accepted, p.shallow, a.1)
+    → (length tree ≤ file_limit) × (65536 ≤ length s) × IsOk (stmt (texts_of tree) left tree st.at) × (left ≤ 8) × case
+open_asked a = let p = a.0 in (p.walkable.small, p.ready.room, p.accepted, p.shallow, a.1)
 
 -- the body opened, whatever the marks, and the state moved there
 pub opened_moved : {t : List Text} {depth : ℕ} {scope : Scope} {gates : Table GateSig} {ds : List Diagnostic} {place : ℕ} (st : State) (a : After) {s o s' o' : List ℕ}
@@ -47,7 +46,7 @@ module _ {t : List Text} {depth : ℕ} {scope : Scope} {gates : Table GateSig} {
   opened-below = entered_below p.becomes
 
   pub opened-ready : {tree : List ℕ} → Ready tree s st → Ready tree s' i
-  opened-ready r = record { room = omega (arith, p.becomes.same_length, r.room); few = few-after p.becomes r.few; placed = rw p.marks r.placed; fits = p.emitted.fits }
+  opened-ready r = record { room = omega (arith, p.becomes.same_length, r.room); few = few-after p.becomes r.few; placed = rw p.marks r.placed }
 
 module _ (tree : List ℕ) {t : List Text} (ks : List Key) {depth : ℕ} {scope : Scope} {gates : Table GateSig} {ds : List Diagnostic} {place : ℕ} {st : State} {s o : List ℕ} {i : State} {s' o' : List ℕ} (p : Opened t depth scope gates ds place st s o i s' o') where
   abbrev pub inner : SemaContext

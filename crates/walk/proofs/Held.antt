@@ -11,16 +11,16 @@ use Rattle.tree.specs.Decode.{texts_of}
 use Rattle.sema.specs.Messages.{Diagnostic}
 use Rattle.sema.specs.Symbols.{Symbols, Scope, Table, GateSig}
 use Rattle.sema.specs.Marks.{Key, unite, after_loop}
-use Rattle.sema.specs.Limits.{key_limit}
 use Rattle.sema.specs.Keys.{keys_stmts}
 use Rattle.sema.specs.Stmts.{SemaContext, leave, analyze_stmt, analyze_stmts}
 use Rattle.context.specs.declared.State.{State}
+use Rattle.std.specs.Prelude.{Option, Some, None}
 use Rattle.context.specs.View.{Placed, keys_in, scopes_of, marks_of, context_of}
 use Rattle.accepted.specs.Parts.{value_or, given_ok, end_in}
 use Rattle.sheet.specs.Behind.{Blank}
 use Rattle.accepted.specs.Bodies.{body_in, stmt-end}
 use Rattle.promises.specs.Went.{body_keys, stmt_keys, Asked, StmtAsked, BodyAsked, Went, StmtWent, BodyWent}
-use Rattle.promises.specs.WentLaws.{went_as, within, body_longer, blank_longer}
+use Rattle.promises.specs.WentLaws.{went_as, went_over, body_longer, blank_longer}
 use Rattle.promises.specs.WalkLaws.{context_is, stmt-walked}
 use Rattle.bodies.specs.Opened.{Opened}
 use Rattle.walk.specs.Bodies.{looped, LoopAsked, LoopWalked, LoopWent}
@@ -56,19 +56,20 @@ module _ {tree : List ℕ} {left : ℕ} {keys_of : Symbols → List Key → List
         (given_ok no_stmt _ (λ b. keys_stmts b (scope ∷ scopes_of s (9 - left)) (keys_in index st.keys)) (body (stmt (texts_of tree) (left - 1)) tree place) H.held ∙ sym (H.keys (scopes_of s (9 - left)) (keys_in index st.keys)))
 
     -- what holds it was walked over, or the walk has stopped
-    pub held_went : {index' : List ℕ} {w : State} {s'' : List ℕ} {W : Type 0} → Went index index' (body_keys (body (stmt (texts_of tree) (left - 1)) tree i.at) (scopes_of s' (9 - (left - 1))) (keys_in index i.keys)) s' s'' w W
-        → (r : State) → r.keys ≡ w.keys → {X : Type 0} → (w.keys ≤ key_limit → W → X) → (w.keys ≤ key_limit → Blank w.keys w.marks → Blank w.keys r.marks)
+    pub held_went : {index' s'' : List ℕ} {r : Option State} {X : State → Type 0} → Went index index' (body_keys (body (stmt (texts_of tree) (left - 1)) tree i.at) (scopes_of s' (9 - (left - 1))) (keys_in index i.keys)) s' s'' r X
         → Went index index' (keys_of (scopes_of s (9 - left)) (keys_in index st.keys)) s s'' r X
-    held_went g r f walks blank =
-        let b = went_as g r f walks blank in
+    held_went g =
         record {
-          added = rw held-keys at b.added;
-          index-length = b.index-length;
-          scratch-length = b.scratch-length ∙ p.becomes.same_length;
-          scratch-rest = b.scratch-rest ∙ p.becomes.same_rest;
-          walked = b.walked;
-          behind = b.behind;
+          grown = rw held-keys at g.grown;
+          index-length = g.index-length;
+          scratch-length = g.scratch-length ∙ p.becomes.same_length;
+          scratch-rest = g.scratch-rest ∙ p.becomes.same_rest;
+          reached = g.reached;
         }
+
+    pub held_over : {index' s'' : List ℕ} {W : State → Type 0} → Went index index' (body_keys (body (stmt (texts_of tree) (left - 1)) tree i.at) (scopes_of s' (9 - (left - 1))) (keys_in index i.keys)) s' s'' None W
+        → (X : State → Type 0) → Went index index' (keys_of (scopes_of s (9 - left)) (keys_in index st.keys)) s s'' None X
+    held_over g X = held_went (went_over g _ (omega arith) X)
 
 -- a statement that ends in a body and a span
 module _ {tree index : List ℕ} {left : ℕ} {st : State} {S : Stmt} {scope : Scope} {place : ℕ} (is : stmt (texts_of tree) left tree st.at ≡ ok S (next_of (body (stmt (texts_of tree) (left - 1)) tree place) + 8))
@@ -86,17 +87,19 @@ module _ {tree index : List ℕ} {left : ℕ} {st : State} {S : Stmt} {scope : S
   body_walk ks = analyze_stmts (texts_of tree) (value_or no_stmt (body (stmt (texts_of tree) (left - 1)) tree place)) (inner tree ks p)
 
   -- a loop was walked over with its body, or the walk has stopped
-  pub loop_went : {index' : List ℕ} {w : State} {s'' o'' : List ℕ} → LoopWent tree (left - 1) i index s' o' w index' s'' o''
+  pub loop_went : {index' : List ℕ} (w : Option State) {s'' o'' : List ℕ} → LoopWent tree (left - 1) i index s' o' w index' s'' o''
       → ((ks : List Key) → analyze_stmt (texts_of tree) S (context_of tree ks s (9 - left) st.marks)
       ≡ (leave (context_of tree ks s (9 - left) st.marks) (body_walk ks).0 (after_loop (marks_of tree ks st.marks) (body_walk ks).0.measured), ds ++ (body_walk ks).1))
       → StmtWent tree left st index s o w index' s'' o''
-  loop_went {index' = index'} {w = w} g e =
+  loop_went None g e = held_over H p a g _
+  loop_went {index' = index'} (Some w) g e =
       let ks = keys_in index' w.keys in
-      held_went H p a g w refl
-      (λ f v.
+      held_went H p a
+      (went_as g w refl
+      (λ v.
       let u = body-walked tree index' w.keys left H.some a.shallow place i p.at H.held looped (λ n. n + 8) v in
       stmt-walked tree index' w.keys left st is (enclosed tree ks p _ u _ _ _ w (e ks) (ended-marks tree ks p _ u) v.placed u.at refl))
-      (λ f b. b)
+      (λ b. b))
 
 -- the marks of two ways united
 abbrev pub United : List ℕ → List ℕ → List ℕ → Type 0
@@ -105,30 +108,31 @@ United a b b' =
     × (((tree : List ℕ) (ks : List Key) → marks_of tree ks b' ≡ unite (marks_of tree ks a) (marks_of tree ks b))
     × ((n : ℕ) → Blank n a → Blank n b → Blank n b'))
 
--- the body of a loop was walked over, or the walk has stopped
-module _ {tree index : List ℕ} {left : ℕ} {st : State} {s : List ℕ} (a : LoopAsked tree index left st s) {o : List ℕ} {w : State} {index' s' o' : List ℕ} (g : BodyWent tree left st index s o w index' s' o') where
-  pub looped-over : w.keys ≡ 257 → LoopWent tree left st index s o w index' s' o'
-  looped-over e = went_as g w refl (λ f. absurd (omega arith)) (λ f b. b)
+-- the body of a loop: the walk has stopped in it, or it was walked over
+module _ {tree index : List ℕ} {left : ℕ} {st : State} {s : List ℕ} (a : LoopAsked tree index left st s) {o index' s' o' : List ℕ} where
+  pub looped-over : BodyWent tree left st index s o None index' s' o' → LoopWent tree left st index s o None index' s' o'
+  looped-over g = went_over g _ (omega arith) _
 
-  pub looped-room : (w.keys ≡ 257 → ⊥) → w.at + 8 ≤ length tree
-  looped-room u = rw (g.walked (within g.added u)).at a.1
+  module _ {w : State} (g : BodyWent tree left st index s o (Some w) index' s' o') where
+    pub looped-room : w.at + 8 ≤ length tree
+    looped-room = rw g.reached.0.at a.1
 
-  -- entry and exit are united
-  pub looped_went : (r : State) → r.at ≡ w.at + 8 → r.sink ≡ w.sink → r.keys ≡ w.keys → United st.marks w.marks r.marks → LoopWent tree left st index s o r index' s' o'
-  unfolding after_loop
-  looped_went r x y k u =
-      let ks = keys_in index' w.keys in
-      went_as g r k
-      (λ f b.
-      subst (λ (n : ℕ). LoopWalked tree index' n left st s o r s' o') (sym k)
-      (record {
-        at = x ∙ ap (λ (n : ℕ). n + 8) b.at;
-        goes = context_is (ap (λ (c : SemaContext). c.symbols) b.goes) (ap (λ (c : SemaContext). c.gates) b.goes) (ap (λ (c : SemaContext). c.functions) b.goes) (u.1.0 tree ks ∙ ap (λ (c : SemaContext). unite (marks_of tree ks st.marks) c.measured) b.goes);
-        emitted = rw y b.emitted;
-        below = b.below;
-        same_length = b.same_length;
-        same_rest = b.same_rest;
-        few = b.few;
-        placed = u.0 tree a.0.ready.placed b.placed;
-      }))
-      (λ f b. u.1.1 w.keys (blank_longer (body_longer _ _ _) g.added f a.0.blank) b)
+    -- entry and exit are united
+    pub looped_went : (r : State) → r.at ≡ w.at + 8 → r.sink ≡ w.sink → r.keys ≡ w.keys → United st.marks w.marks r.marks → LoopWent tree left st index s o (Some r) index' s' o'
+    unfolding after_loop
+    looped_went r x y k u =
+        let ks = keys_in index' w.keys in
+        went_as g r k
+        (λ b.
+        subst (λ (n : ℕ). LoopWalked tree index' n left st s o r s' o') (sym k)
+        (record {
+          at = x ∙ ap (λ (n : ℕ). n + 8) b.at;
+          goes = context_is (ap (λ (c : SemaContext). c.symbols) b.goes) (ap (λ (c : SemaContext). c.gates) b.goes) (ap (λ (c : SemaContext). c.functions) b.goes) (u.1.0 tree ks ∙ ap (λ (c : SemaContext). unite (marks_of tree ks st.marks) c.measured) b.goes);
+          emitted = rw y b.emitted;
+          below = b.below;
+          same_length = b.same_length;
+          same_rest = b.same_rest;
+          few = b.few;
+          placed = u.0 tree a.0.ready.placed b.placed;
+        }))
+        (λ b. u.1.1 w.keys (blank_longer _ _ (body_longer _ _ _) g.grown.0 a.0.blank) b)

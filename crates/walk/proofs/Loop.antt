@@ -14,19 +14,19 @@ use Rattle.sema.specs.Keys.{keys_stmt, keys_stmts}
 use Rattle.sema.specs.Stmts.{SemaContext, analyze_stmt, analyze_stmts}
 use Rattle.context.specs.declared.Sink.{Sink}
 use Rattle.context.specs.declared.State.{State}
+use Rattle.std.specs.Prelude.{Some, None}
 use Rattle.context.specs.Sink.{written_of, emit}
-use Rattle.context.specs.View.{key_base, number_at, keys_in, scopes_of, context_of}
+use Rattle.context.specs.View.{number_at, keys_in, scopes_of, context_of}
 use Rattle.tables.specs.Tables.{tables_end}
 use Rattle.lines.specs.EmitLaws.{emit-append, emit-none}
 use Rattle.accepted.specs.Cases.{blank_stmt}
 use Rattle.accepted.specs.Parts.{value_or, value_is, given_is, given_ok, next_is}
 use Rattle.accepted.specs.Fields.{repeat-none, repeat-first, repeat-rest, repeat_is}
 use Rattle.accepted.specs.Bodies.{stmt_forward, body_is, body-held}
-use Rattle.sheet.specs.Table.{none-added}
 use Rattle.sheet.specs.Behind.{Blank}
 use Rattle.promises.specs.Walks.{Walkable, Ready, walk_stmt, walk_body}
 use Rattle.promises.specs.Went.{stmt_keys, body_keys, StmtAsked, BodyAsked, StmtWent, BodyWent}
-use Rattle.promises.specs.WentLaws.{within, longer_as, longer_length, stmt_longer, stmts_longer, marks_longer, blank-keys, blank_longer, walkable_longer, went_over}
+use Rattle.promises.specs.WentLaws.{longer_as, longer_length, stmt_longer, stmts_longer, marks_longer, blank-keys, blank_longer, walkable_longer, went_over}
 use Rattle.sema.proofs.LawsOnly.{symbols-after}
 
 -- n statements of the body at a place remain from r on, with the keys so far in the index i; what the walk makes of them is what it makes of
@@ -42,7 +42,6 @@ pub record Going (tree : List ℕ) (left at : ℕ) (st : State) (i₀ s o : List
   pub keys : body_keys (body (stmt (texts_of tree) left) tree at) (scopes_of s (9 - left)) (keys_in i₀ st.keys)
       ≡ keys_stmts (value_or no_stmt (repeat no_stmt more_stmt (stmt (texts_of tree) left) n tree r.at)) (scopes_of s' (9 - left)) (keys_in i r.keys)
   pub walkable : Walkable tree i r.keys
-  pub texts : take key_base i ≡ take key_base i₀
   pub index-length : length i ≡ length i₀
   pub behind : Blank r.keys r.marks
   pub entry_behind : Blank r.keys st.marks
@@ -50,16 +49,15 @@ pub record Going (tree : List ℕ) (left at : ℕ) (st : State) (i₀ s o : List
   pub below : (d : ℕ) → d < 9 - left → scopes_of s' d ≡ scopes_of s d
   pub same_length : length s' ≡ length s
   pub same_rest : drop tables_end s' ≡ drop tables_end s
-  pub same_out : length o' ≡ length o
 
 -- a state whose place and listing are kept beside it
 abbrev pub beside : State → ℕ → Sink → State
 beside s at sink = record { at = at; sink = sink; keys = s.keys; marks = s.marks }
 
 -- one statement, under other names
-pub stepped_as : {tree : List ℕ} (left : ℕ) {st : State} {i s o : List ℕ} {r : State} {i' s' o' i'' s'' o'' : List ℕ} → StmtWent tree left st i s o r i' s' o' → length o' ≡ length o → i'' ≡ i' → s'' ≡ s' → o'' ≡ o'
-    → (x : State) (at : ℕ) (sink : Sink) → x.keys ≡ r.keys → x.marks ≡ r.marks → at ≡ r.at → sink ≡ r.sink → StmtWent tree left st i s o (beside x at sink) i'' s'' o'' × (length o'' ≡ length o)
-stepped_as left v z a b c x at sink e f g h = rw (a, b, c, e, f, g, h) (v, z)
+pub stepped_as : {tree : List ℕ} (left : ℕ) {st : State} {i s o : List ℕ} {r : State} {i' s' o' i'' s'' o'' : List ℕ} → StmtWent tree left st i s o (Some r) i' s' o' → i'' ≡ i' → s'' ≡ s' → o'' ≡ o'
+    → (x : State) (at : ℕ) (sink : Sink) → x.keys ≡ r.keys → x.marks ≡ r.marks → at ≡ r.at → sink ≡ r.sink → StmtWent tree left st i s o (Some (beside x at sink)) i'' s'' o''
+stepped_as left v a b c x at sink e f g h = rw (a, b, c, e, f, g, h) v
 
 -- one statement more
 module _ (tree : List ℕ) (left n k : ℕ) (h : IsOk (repeat no_stmt more_stmt (stmt (texts_of tree) left) n tree k)) (l : 0 < n) (m : ℕ) (e : m ≡ next_of (stmt (texts_of tree) left tree k)) where
@@ -99,16 +97,18 @@ going_start {tree = tree} {index = index} {left = left} {st = st} {s = s} a n e 
       says = rw (e, x, g);
       keys = given_ok no_stmt _ (λ v. keys_stmts v (scopes_of s (9 - left)) (keys_in index r.keys)) (body (stmt (texts_of tree) left) tree st.at) a.accepted ∙ rw (e, x, g);
       walkable = rw k a.walkable;
-      texts = refl;
       index-length = refl;
       behind = b;
       entry_behind = b;
-      ready = record { room = a.ready.room; few = a.ready.few; placed = rw z a.ready.placed; fits = rw y a.ready.fits };
+      ready = record { room = a.ready.room; few = a.ready.few; placed = rw z a.ready.placed };
       below = λ d l. refl;
       same_length = refl;
       same_rest = refl;
-      same_out = refl;
     }
+
+-- where one more was walked over
+pub going_next : {tree : List ℕ} {left at : ℕ} {r₀ : State} {i₀ s o : List ℕ} (n k : ℕ) {r : State} {i s' o' : List ℕ} → Going tree left at r₀ i₀ s o (n - k - 1) r i s' o' → Going tree left at r₀ i₀ s o (n - (k + 1)) r i s' o'
+going_next n k g = let e : n - (k + 1) ≡ n - k - 1 = omega arith in rw e g
 
 module _ {tree : List ℕ} {left at : ℕ} {r₀ : State} {i₀ s o : List ℕ} {n : ℕ} {r : State} {i s' o' : List ℕ} (g : Going tree left at r₀ i₀ s o n r i s' o') where
   module _ (l : 0 < n) where
@@ -119,41 +119,41 @@ module _ {tree : List ℕ} {left at : ℕ} {r₀ : State} {i₀ s o : List ℕ} 
     pub going_asked : left ≤ 8 → StmtAsked tree i left r s'
     going_asked d = record { walkable = g.walkable; ready = g.ready; accepted = going_stmt; shallow = d; blank = g.behind }
 
-    module _ {r'' : State} {i'' s'' o'' : List ℕ} (v : StmtWent tree left r i s' o' r'' i'' s'' o'') where
-      abbrev one : Stmt
-      one = value_or blank_stmt (stmt (texts_of tree) left tree r.at)
+    abbrev one : Stmt
+    one = value_or blank_stmt (stmt (texts_of tree) left tree r.at)
 
-      one-keys : stmt_keys (stmt (texts_of tree) left tree r.at) (scopes_of s' (9 - left)) (keys_in i r.keys) ≡ keys_stmt one (scopes_of s' (9 - left)) (keys_in i r.keys)
-      one-keys = given_ok blank_stmt _ (λ a. keys_stmt a (scopes_of s' (9 - left)) (keys_in i r.keys)) (stmt (texts_of tree) left tree r.at) going_stmt
+    one-keys : stmt_keys (stmt (texts_of tree) left tree r.at) (scopes_of s' (9 - left)) (keys_in i r.keys) ≡ keys_stmt one (scopes_of s' (9 - left)) (keys_in i r.keys)
+    one-keys = given_ok blank_stmt _ (λ a. keys_stmt a (scopes_of s' (9 - left)) (keys_in i r.keys)) (stmt (texts_of tree) left tree r.at) going_stmt
 
-      rest_keys : (m : ℕ) → m ≡ next_of (stmt (texts_of tree) left tree r.at) → body_keys (body (stmt (texts_of tree) left) tree at) (scopes_of s (9 - left)) (keys_in i₀ r₀.keys)
-          ≡ keys_stmts (value_or no_stmt (repeat no_stmt more_stmt (stmt (texts_of tree) left) (n - 1) tree m)) (after (scopes_of s' (9 - left)) one) (keys_stmt one (scopes_of s' (9 - left)) (keys_in i r.keys))
-      unfolding keys_stmts
-      rest_keys m e = g.keys ∙ ap (λ b. keys_stmts b (scopes_of s' (9 - left)) (keys_in i r.keys)) (value_is (more_is tree left n r.at g.rest l m e) no_stmt)
+    rest_keys : (m : ℕ) → m ≡ next_of (stmt (texts_of tree) left tree r.at) → body_keys (body (stmt (texts_of tree) left) tree at) (scopes_of s (9 - left)) (keys_in i₀ r₀.keys)
+        ≡ keys_stmts (value_or no_stmt (repeat no_stmt more_stmt (stmt (texts_of tree) left) (n - 1) tree m)) (after (scopes_of s' (9 - left)) one) (keys_stmt one (scopes_of s' (9 - left)) (keys_in i r.keys))
+    unfolding keys_stmts
+    rest_keys m e = g.keys ∙ ap (λ b. keys_stmts b (scopes_of s' (9 - left)) (keys_in i r.keys)) (value_is (more_is tree left n r.at g.rest l m e) no_stmt)
 
-      -- too many keys
-      pub going_over : r''.keys ≡ 257 → (r''' : State) → r'''.keys ≡ r''.keys → (st : State) → st.at ≡ at → r₀.keys ≡ st.keys → BodyWent tree left st i₀ s o r''' i'' s'' o''
-      going_over e r''' k st x y =
-          let ls = stmt_keys (stmt (texts_of tree) left tree r.at) (scopes_of s' (9 - left)) (keys_in i r.keys) in
-          let f : length ls ≤ length (body_keys (body (stmt (texts_of tree) left) tree at) (scopes_of s (9 - left)) (keys_in i₀ r₀.keys)) =
-          rw (rest_keys _ refl, one-keys) (longer_length (stmts_longer _ _ _)) in
-          let q = went_over v e _ f Unit in
-          rw (x, ← y)
-          (record {
-            added = rw k (record { counted = q.added.counted; keys = q.added.keys; texts = v.added.texts ∙ g.texts });
-            index-length = v.index-length ∙ g.index-length;
-            scratch-length = v.scratch-length ∙ g.same_length;
-            scratch-rest = v.scratch-rest ∙ g.same_rest;
-            walked = λ m. absurd (omega arith);
-            behind = λ m. absurd (omega arith);
-          })
+    -- too many keys
+    pub going_over : {i'' s'' o'' : List ℕ} → StmtWent tree left r i s' o' None i'' s'' o'' → (st : State) → st.at ≡ at → r₀.keys ≡ st.keys → BodyWent tree left st i₀ s o None i'' s'' o''
+    going_over v st x y =
+        let ls = stmt_keys (stmt (texts_of tree) left tree r.at) (scopes_of s' (9 - left)) (keys_in i r.keys) in
+        let f : length ls ≤ length (body_keys (body (stmt (texts_of tree) left) tree at) (scopes_of s (9 - left)) (keys_in i₀ r₀.keys)) =
+        rw (rest_keys _ refl, one-keys) (longer_length (stmts_longer _ _ _)) in
+        let q = went_over v _ f (λ z. Unit) in
+        rw (x, ← y)
+        (record {
+          grown = q.grown;
+          index-length = v.index-length ∙ g.index-length;
+          scratch-length = v.scratch-length ∙ g.same_length;
+          scratch-rest = v.scratch-rest ∙ g.same_rest;
+          reached = tt;
+        })
 
-      pub going_more : (r''.keys ≡ 257 → ⊥) → length o'' ≡ length o' → Going tree left at r₀ i₀ s o (n - 1) r'' i'' s'' o''
-      going_more u z =
+    module _ {r'' : State} {i'' s'' o'' : List ℕ} (v : StmtWent tree left r i s' o' (Some r'') i'' s'' o'') where
+      pub going_more : Going tree left at r₀ i₀ s o (n - 1) r'' i'' s'' o''
+      going_more =
           let t = texts_of tree in
-          let few = within v.added u in
-          let w = v.walked few in
-          let G = longer_as (sym (v.added.keys few)) (stmt_longer (scopes_of s' (9 - left)) (keys_in i r.keys) (stmt t left tree r.at)) in
+          let few = v.grown.1 in
+          let added = v.grown.0 in
+          let w = v.reached.0 in
+          let G = longer_as (sym added) (stmt_longer (scopes_of s' (9 - left)) (keys_in i r.keys) (stmt t left tree r.at)) in
           let mr = marks_longer G tree r.marks (blank-keys i g.behind) in
           let ms = marks_longer G tree r₀.marks (blank-keys i g.entry_behind) in
           let c = context_of tree (keys_in i'' r''.keys) s' (9 - left) r.marks in
@@ -176,21 +176,19 @@ module _ {tree : List ℕ} {left at : ℕ} {r₀ : State} {i₀ s o : List ℕ} 
                 ∙ sym (emit-append t (analyze_stmt t one c).1 (analyze_stmts t R'' (analyze_stmt t one c).0).1 (written_of r.sink o'))
                 ∙ ap (λ y. emit t y (written_of r.sink o')) (sym (ap (λ p. p.1) x))
                 ∙ rw (mr, ms) g.says;
-            keys = rest_keys r''.at w.at ∙ rw (ss, v.added.keys few ∙ one-keys);
-            walkable = walkable_longer g.walkable (stmt_longer (scopes_of s' (9 - left)) (keys_in i r.keys) (stmt t left tree r.at)) v.added v.index-length few;
-            texts = v.added.texts ∙ g.texts;
+            keys = rest_keys r''.at w.at ∙ rw (ss, added ∙ one-keys);
+            walkable = walkable_longer g.walkable (stmt_longer (scopes_of s' (9 - left)) (keys_in i r.keys) (stmt t left tree r.at)) added v.index-length few;
             index-length = v.index-length ∙ g.index-length;
-            behind = v.behind few;
-            entry_behind = blank_longer (stmt_longer (scopes_of s' (9 - left)) (keys_in i r.keys) (stmt t left tree r.at)) v.added few g.entry_behind;
-            ready = record { room = omega (arith, w.same_length, g.ready.room); few = w.few; placed = w.placed; fits = w.emitted.fits };
+            behind = v.reached.1;
+            entry_behind = blank_longer i i'' (stmt_longer (scopes_of s' (9 - left)) (keys_in i r.keys) (stmt t left tree r.at)) added g.entry_behind;
+            ready = record { room = omega (arith, w.same_length, g.ready.room); few = w.few; placed = w.placed };
             below = λ d k. w.below d k ∙ g.below d k;
             same_length = w.same_length ∙ g.same_length;
             same_rest = w.same_rest ∙ g.same_rest;
-            same_out = z ∙ g.same_out;
           }
 
   -- none remains
-  pub going_end : n ≤ 0 → (st : State) → st.at ≡ at → r₀.sink ≡ st.sink → r₀.keys ≡ st.keys → r₀.marks ≡ st.marks → BodyWent tree left st i₀ s o r i s' o'
+  pub going_end : n ≤ 0 → (st : State) → st.at ≡ at → r₀.sink ≡ st.sink → r₀.keys ≡ st.keys → r₀.marks ≡ st.marks → BodyWent tree left st i₀ s o (Some r) i s' o'
   unfolding analyze_stmts keys_stmts
   going_end l st x y z k =
       let t = texts_of tree in
@@ -200,21 +198,22 @@ module _ {tree : List ℕ} {left at : ℕ} {r₀ : State} {i₀ s o : List ℕ} 
       let f : body_keys (body (stmt t left) tree at) (scopes_of s (9 - left)) (keys_in i₀ r₀.keys) ≡ keys_in i r.keys = g.keys ∙ ap (λ b. keys_stmts b (scopes_of s' (9 - left)) (keys_in i r.keys)) (value_is e no_stmt) in
       rw (x, ← z)
       (record {
-        added = rw f (let a = none-added i r.keys g.walkable.indexed in record { counted = a.counted; keys = a.keys; texts = g.texts });
+        grown = (rw f refl, g.walkable.indexed.few);
         index-length = g.index-length;
         scratch-length = g.same_length;
         scratch-rest = g.same_rest;
-        walked = λ m.
-            rw (← y, ← k)
-            (record {
-              at = sym (g.ends ∙ next_is e);
-              goes = sym (ap (λ p. p.0) w) ∙ g.walks;
-              emitted = record { says = sym (emit-none t (written_of r.sink o')) ∙ ap (λ a. emit t a (written_of r.sink o')) (sym (ap (λ p. p.1) w)) ∙ g.says; fits = g.ready.fits };
-              below = g.below;
-              same_length = g.same_length;
-              same_rest = g.same_rest;
-              few = g.ready.few;
-              placed = g.ready.placed;
-            });
-        behind = λ m. g.behind;
+        reached = (
+          rw (← y, ← k)
+              (record {
+                at = sym (g.ends ∙ next_is e);
+                goes = sym (ap (λ p. p.0) w) ∙ g.walks;
+                emitted = record { says = sym (emit-none t (written_of r.sink o')) ∙ ap (λ a. emit t a (written_of r.sink o')) (sym (ap (λ p. p.1) w)) ∙ g.says };
+                below = g.below;
+                same_length = g.same_length;
+                same_rest = g.same_rest;
+                few = g.ready.few;
+                placed = g.ready.placed;
+              }),
+          g.behind,
+        );
       })

@@ -36,5 +36,5 @@ unfolding is_plain
 late n e h = ltb-false n 12 (rw (ne_eqb n 6 h) at e)
 
 -- what a statement asks that leaves the marks
-pub passable : {tree index scratch : List ℕ} {keys : ℕ} {st : State} → Walkable tree index keys → Ready tree scratch st → Passable tree index scratch st.sink
-passable w r = record { small = w.small; texts = w.texts; room = r.room; few = r.few; fits = r.fits }
+pub passable : {tree index scratch : List ℕ} {keys : ℕ} {st : State} → Walkable tree index keys → Ready tree scratch st → Passable tree scratch
+passable w r = record { small = w.small; room = r.room; few = r.few }

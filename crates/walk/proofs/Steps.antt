@@ -1,6 +1,6 @@
 -- A statement without statements in it, and its keys. Assumes nothing.
 use Prim.Native.Nat.{ℕ, zero, suc, ◌-◌, ◌≤◌, ◌<◌}
-use mathlib.Core.Path.{◌≡◌, refl, sym, subst}
+use mathlib.Core.Path.{◌≡◌, refl, sym, ap, subst}
 use mathlib.Core.List.{List}
 use mathlib.Core.Logic.{⊎_elim}
 use native.Mathlib.Omega.{arith}
@@ -9,17 +9,19 @@ use Rattle.text.proofs.Tests.{true_of}
 use Rattle.tree.specs.Ans.{IsOk}
 use Rattle.tree.specs.Stmts.{stmt}
 use Rattle.tree.specs.Decode.{texts_of}
-use Rattle.sema.specs.Limits.{key_limit}
 use Rattle.sema.specs.Symbols.{Symbols}
 use Rattle.sema.specs.Marks.{Key}
 use Rattle.sema.specs.Keys.{has_key, keys_stmt}
 use Rattle.sema.proofs.KeyCount.{grown-stmt}
 use Rattle.sema.proofs.LawsKeys.{has_key-iff}
 use Rattle.context.specs.declared.State.{State}
+use Rattle.std.specs.Prelude.{Some, None}
 use Rattle.context.specs.View.{scopes_of, keys_in}
 use Rattle.accepted.specs.Parts.{given_is}
 use Rattle.accepted.specs.Stmts as of
-use Rattle.sheet.specs.Sheet.{KeysAdded}
+use Rattle.sheet.specs.Sheet.{Grown}
+use Rattle.sheet.specs.Table.{length-keys}
+use Rattle.sema.specs.Limits.{key_limit}
 use Rattle.sheet.specs.Behind.{Blank}
 use Rattle.promises.specs.Walks.{state_of, Walkable, Ready, StmtKeyed, StmtWalked}
 use Rattle.promises.specs.Went.{stmt_keys, StmtWent}
@@ -47,27 +49,23 @@ plain-keys tree left at h u m o ss ks = go (get_or tree at 0) refl
 
 -- the sink and the marks alone play a part
 pub ready_of : {tree s : List ℕ} {st : State} → Ready tree s st → Ready tree s (state_of st.at st.sink st.marks)
-ready_of h = record { room = h.room; few = h.few; placed = h.placed; fits = h.fits }
+ready_of h = record { room = h.room; few = h.few; placed = h.placed }
 
-module _ (tree : List ℕ) (left : ℕ) (st : State) (i i' s : List ℕ) (count : ℕ) (a : KeysAdded i i' count (stmt_keys (stmt (texts_of tree) left tree st.at) (scopes_of s (9 - left)) (keys_in i st.keys))) (z : length i' ≡ length i) where
+module _ (tree : List ℕ) (left : ℕ) (st : State) (i i' s : List ℕ) (z : length i' ≡ length i) where
+  -- the keys of the statement, behind those there are
+  abbrev keys : List Key
+  keys = stmt_keys (stmt (texts_of tree) left tree st.at) (scopes_of s (9 - left)) (keys_in i st.keys)
+
   -- the walk has stopped at the statement
-  pub step-over : count ≡ 257 → (r : State) → r.keys ≡ count → {o o' : List ℕ} → StmtWent tree left st i s o r i' s o'
-  step-over e r f =
-      record {
-        added = rw f a;
-        index-length = z;
-        scratch-length = refl;
-        scratch-rest = refl;
-        walked = λ m. absurd (omega arith);
-        behind = λ m. absurd (omega arith);
-      }
+  pub step-over : key_limit < length keys → {o o' : List ℕ} → StmtWent tree left st i s o None i' s o'
+  step-over a = record { grown = a; index-length = z; scratch-length = refl; scratch-rest = refl; reached = tt }
 
-  module _ (few : count ≤ key_limit) where
-    one_longer : Longer (keys_in i st.keys) (stmt_keys (stmt (texts_of tree) left tree st.at) (scopes_of s (9 - left)) (keys_in i st.keys))
+  module _ {count : ℕ} (a : Grown i' (Some count) keys) where
+    one_longer : Longer (keys_in i st.keys) keys
     one_longer = stmt_longer (scopes_of s (9 - left)) (keys_in i st.keys) (stmt (texts_of tree) left tree st.at)
 
     pub step-walkable : Walkable tree i st.keys → Walkable tree i' count
-    step-walkable w = walkable_longer w one_longer a z few
+    step-walkable w = walkable_longer w one_longer a.0 z a.1
 
     -- every key that the statement sets is there
     pub step_keyed : StmtKeyed (keys_in i' count) (scopes_of s (9 - left)) (stmt (texts_of tree) left tree st.at)
@@ -77,19 +75,21 @@ module _ (tree : List ℕ) (left : ℕ) (st : State) (i i' s : List ℕ) (count 
               let q = given_is e (keys_in i st.keys) (λ x. keys_stmt x (scopes_of s (9 - left)) (keys_in i st.keys)) in
               true_of (has_key (keys_in i' count) k)
               ((has_key-iff (keys_in i' count) k).1
-              (rw (a.keys few, q)
-              (⊎_elim (λ x. x) (λ l. let c = rw q at a.counted in absurd (omega arith)) ((grown-stmt S (scopes_of s (9 - left)) (keys_in i st.keys)).all k set))));
+              (rw (a.0, q)
+              (⊎_elim (λ x. x) (λ l. let c = rw q at a.0 in let few = a.1 in absurd (omega (arith, ap length c, length-keys i' 0 count))) ((grown-stmt S (scopes_of s (9 - left)) (keys_in i st.keys)).all k set))));
         }
 
     -- the statement was walked over
     pub step_went : (r : State) → r.keys ≡ count → Blank st.keys st.marks → {o s' o' : List ℕ} → StmtWalked tree i' count left (state_of st.at st.sink st.marks) s o (state_of r.at r.sink r.marks) s' o'
-        → ((n : ℕ) → count ≤ n → Blank n st.marks → Blank n r.marks) → StmtWent tree left st i s o r i' s' o'
+        → ((n : ℕ) → count ≤ n → Blank n st.marks → Blank n r.marks) → StmtWent tree left st i s o (Some r) i' s' o'
     step_went r f b {o = o} {s' = s'} {o' = o'} w p =
         record {
-          added = rw f a;
+          grown = rw f a;
           index-length = z;
           scratch-length = w.same_length;
           scratch-rest = w.same_rest;
-          walked = λ m. subst (λ (k : ℕ). StmtWalked tree i' k left st s o r s' o') (sym f) (walked_at w st r refl refl refl refl refl);
-          behind = λ m. rw f (p count (omega arith) (blank_longer one_longer a few b));
+          reached = (
+            subst (λ (k : ℕ). StmtWalked tree i' k left st s o r s' o') (sym f) (walked_at w st r refl refl refl refl refl),
+            rw f (p count (omega arith) (blank_longer i i' one_longer a.0 b)),
+          );
         }

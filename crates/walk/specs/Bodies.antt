@@ -1,5 +1,5 @@
 -- Statements with and without a body, by their case byte; what a loop makes of its body; what an `else` asks, and what the analysis makes of it.
-use Rattle.std.specs.Prelude.{ℕ, suc, ◌+◌, ◌-◌, ◌≤◌, ◌<◌, Bool, not, ◌&&◌, List, [], length, eqb, ltb}
+use Rattle.std.specs.Prelude.{ℕ, suc, ◌+◌, ◌-◌, ◌≤◌, ◌<◌, Bool, not, ◌&&◌, List, [], length, eqb, ltb, Option, Some, None}
 use Rattle.ast.specs.Tree.{Text, Else}
 use Rattle.tree.specs.Ans.{Ans, given, next_of}
 use Rattle.tree.specs.Stmts.{stmt, body, else_body}
@@ -14,6 +14,7 @@ use Rattle.sheet.specs.Behind.{Blank}
 use Rattle.promises.specs.Walks.{Walk, Walked, walk_body}
 use Rattle.promises.specs.Went.{body_keys, else_keys, Asked, BodyAsked, Went}
 use Rattle.bodies.specs.Opened.{Opened}
+use Rattle.walk.specs.declared.Step.{Step}
 
 -- the state past what was checked: the keys and the marks stay
 abbrev pub moved_to : State → After → State
@@ -22,6 +23,11 @@ moved_to st a = record { at = a.next; sink = a.sink; keys = st.keys; marks = st.
 -- the state in which an `else` begins: that in which the `then` body ended, with the marks of the entry
 abbrev pub entry_of : State → List ℕ → State
 entry_of t entry = record { at = t.at; sink = t.sink; keys = t.keys; marks = entry }
+
+-- the state past a statement without statements in it, if the walk came to one, with the marks beside it
+abbrev pub stepped : Option Step → List ℕ → Option State
+stepped (Some a) marks = Some (record { at = a.next; sink = a.sink; keys = a.keys; marks = marks })
+stepped None marks = None
 
 -- no gate definition, `if` or loop
 unfoldable pub is_plain : ℕ → Bool
@@ -44,9 +50,9 @@ LoopWalked tree index keys left st s o r s' o' =
     (next_of (body (stmt (texts_of tree) left) tree st.at) + 8) st s o r s' o'
 
 -- and so with its keys
-abbrev pub LoopWent : List ℕ → ℕ → State → List ℕ → List ℕ → List ℕ → State → List ℕ → List ℕ → List ℕ → Type 0
+abbrev pub LoopWent : List ℕ → ℕ → State → List ℕ → List ℕ → List ℕ → Option State → List ℕ → List ℕ → List ℕ → Type 0
 LoopWent tree left st i s o r i' s' o' =
-    Went i i' (body_keys (body (stmt (texts_of tree) left) tree st.at) (scopes_of s (9 - left)) (keys_in i st.keys)) s s' r (LoopWalked tree i' r.keys left st s o r s' o')
+    Went i i' (body_keys (body (stmt (texts_of tree) left) tree st.at) (scopes_of s (9 - left)) (keys_in i st.keys)) s s' r (λ x. LoopWalked tree i' x.keys left st s o x s' o')
 
 -- what an `else` asks after a `then` body that ended in the state t, from the marks of the entry
 pub record ElseAsked (tree index : List ℕ) (left : ℕ) (entry : List ℕ) (t : State) (s : List ℕ) : Type 0 where
@@ -73,6 +79,6 @@ ElseWalked tree ks left entry t s o r s' o' =
     Walked tree (texts_of tree) ks (9 - left) (walk_else (texts_of tree) (context_of tree ks s (suc (9 - left)) t.marks) (else_body (stmt (texts_of tree) (left - 1)) tree t.at))
     (next_of (else_body (stmt (texts_of tree) (left - 1)) tree t.at)) (entry_of t entry) s o r s' o'
 
-abbrev pub ElseWent : List ℕ → ℕ → List ℕ → State → List ℕ → List ℕ → List ℕ → State → List ℕ → List ℕ → List ℕ → Type 0
+abbrev pub ElseWent : List ℕ → ℕ → List ℕ → State → List ℕ → List ℕ → List ℕ → Option State → List ℕ → List ℕ → List ℕ → Type 0
 ElseWent tree left entry t i s o r i' s' o' =
-    Went i i' (else_keys (else_body (stmt (texts_of tree) (left - 1)) tree t.at) (scopes_of s (9 - left)) (keys_in i t.keys)) s s' r (ElseWalked tree (keys_in i' r.keys) left entry t s o r s' o')
+    Went i i' (else_keys (else_body (stmt (texts_of tree) (left - 1)) tree t.at) (scopes_of s (9 - left)) (keys_in i t.keys)) s s' r (λ x. ElseWalked tree (keys_in i' x.keys) left entry t s o x s' o')

@@ -30,7 +30,7 @@ operand_at-op-requires c = search left-first
 pub operand_width-requires : goal.operand_width-requires
 operand_width-requires c =
     let l = operand_below _ _ _ c.operand_at-op.result.value c.operand_at-op.ensures in
-    omega (arith, c.args.sema.texts.few)
+    omega (arith, c.args.sema.texts.placed.few)
 
 pub loop-preserved : goal.loop-preserved
 loop-preserved c =

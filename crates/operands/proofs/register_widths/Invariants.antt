@@ -4,4 +4,4 @@ use Rattle.operands.proofs.VecLaws.{Meeting}
 use Rattle.operands.proofs.register_widths.Given as goal
 
 abbrev pub invariant-loop : goal.invariant-loop
-invariant-loop l = Meeting (texts l.sema) l.sema.tree.now (scopes l.sema) l.at (l.n - l.counter) l.k l.met
+invariant-loop l = Meeting (texts l.sema) l.sema.texts.tree.now (scopes l.sema) l.at (l.n - l.counter) l.k l.met

@@ -6,13 +6,13 @@ use Rattle.operands.proofs.use_operands.Goals as goal
 use Rattle.operands.proofs.use_operands.Goals.{then-passes, else-passes}
 
 pub overflow_add-k : goal.overflow_add-k
-overflow_add-k c = let i = counted_in _ _ _ _ _ c.requires.0 in omega arith
+overflow_add-k c = let i = counted_in _ _ _ _ _ c.requires in omega arith
 
 pub bounds-m-at : goal.bounds-m-at
 bounds-m-at c = search counted_in
 
 pub loop-init : goal.loop-init
-loop-init c = using_start _ _ _ _ _ _ _ _ _ c.requires.0 c.requires.1 refl
+loop-init c = using_start _ _ _ _ _ _ _ _ _ c.requires refl
 
 pub passes-requires : goal.passes-requires
 passes-requires c = search left-first
@@ -25,7 +25,7 @@ operand_at-op-requires c = search left-first
 
 pub use_operand-s-requires : goal.use_operand-s-requires
 use_operand-s-requires c =
-    (operand_below _ _ _ c.operand_at-op.result.value c.operand_at-op.ensures, c.loop.invariant.fits)
+    operand_below _ _ _ c.operand_at-op.result.value c.operand_at-op.ensures
 
 pub loop-preserved : goal.loop-preserved
 loop-preserved c =

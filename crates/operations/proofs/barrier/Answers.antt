@@ -8,7 +8,7 @@ use Rattle.std.proofs.Common.{rules}
 use Rattle.operations.proofs.barrier.Goals as goal
 
 pub use_targets-a-requires : goal.use_targets-a-requires
-use_targets-a-requires c = let s = c.requires in (s.1.fits, barrier_targets _ _ _ _ s.2 s.4, barrier-inside _ _ _ _ s.2 s.4 _ refl)
+use_targets-a-requires c = let s = c.requires in (barrier_targets _ _ _ _ s.2 s.4, barrier-inside _ _ _ _ s.2 s.4 _ refl)
 
 pub overflow_add-result : goal.overflow_add-result
 overflow_add-result c = let s = c in let i = barrier-inside _ _ _ _ s.requires.2 s.requires.4 _ c.use_targets-a.ensures.next in omega arith

@@ -8,10 +8,10 @@ use Rattle.std.proofs.Common.{rules}
 use Rattle.operations.proofs.delay.Goals as goal
 
 pub require_numeric-a-requires : goal.require_numeric-a-requires
-require_numeric-a-requires c = let s = c.requires in (s.1.fits, delay_duration _ _ _ _ s.2 s.4, tt)
+require_numeric-a-requires c = let s = c.requires in (delay_duration _ _ _ _ s.2 s.4, tt)
 
 pub use_targets-b-requires : goal.use_targets-b-requires
-use_targets-b-requires c = let s = c.requires in let n = c.require_numeric-a.ensures in (n.emitted.fits, delay_targets _ _ _ _ s.2 s.4 _ n.next, delay-inside _ _ _ _ s.2 s.4 _ n.next _ refl)
+use_targets-b-requires c = let s = c.requires in let n = c.require_numeric-a.ensures in (delay_targets _ _ _ _ s.2 s.4 _ n.next, delay-inside _ _ _ _ s.2 s.4 _ n.next _ refl)
 
 pub overflow_add-result : goal.overflow_add-result
 overflow_add-result c = let s = c in let i = delay-inside _ _ _ _ s.requires.2 s.requires.4 _ c.require_numeric-a.ensures.next _ c.use_targets-b.ensures.next in omega arith

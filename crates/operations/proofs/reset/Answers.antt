@@ -13,7 +13,7 @@ pub operand_at-op-requires : goal.operand_at-op-requires
 operand_at-op-requires c = let s = c in reset_target _ _ _ _ s.requires.2 s.requires.4
 
 pub check_operand-said-requires : goal.check_operand-said-requires
-check_operand-said-requires c = (operand_below _ _ _ c.operand_at-op.result.value c.operand_at-op.ensures, c.requires.1.fits)
+check_operand-said-requires c = (operand_below _ _ _ c.operand_at-op.result.value c.operand_at-op.ensures)
 
 pub overflow_add-result : goal.overflow_add-result
 overflow_add-result c = let s = c in let i = reset-inside _ _ _ _ s.requires.2 s.requires.4 _ (sym (next_is c.operand_at-op.ensures)) in omega arith

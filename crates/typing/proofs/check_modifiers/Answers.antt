@@ -1,22 +1,21 @@
-use Rattle.std.proofs.Common.{rules, arith, refl}
+use Rattle.std.proofs.Common.{rules, [], ◌∷◌}
+use Rattle.tree.specs.Ans.{IsOk}
+use Rattle.tree.specs.Stmts.{modifier}
+use Rattle.sema.specs.Exprs.{check_modifier, check_modifiers}
+use Rattle.context.specs.Given.{texts, scopes, functions}
+use Rattle.accepted.specs.Cases.{blank_modifier}
 use Rattle.accepted.specs.Fields.{counted_in}
-use Rattle.typing.proofs.Vecs.{saying-none, saying-first, saying-on, modifiers-more, modifiers-end}
+use Rattle.typing.proofs.Vecs.{checked-first, checked-end, modifiers_by}
 use Rattle.typing.proofs.check_modifiers.Goals as goal
 
-pub overflow_add-next : goal.overflow_add-next
-overflow_add-next c = let i = counted_in _ _ _ _ _ c.requires.1 in omega arith
-
-pub bounds-sema-at : goal.bounds-sema-at
-bounds-sema-at c = counted_in _ _ _ _ _ c.requires.1
-
-pub loop-init : goal.loop-init
-loop-init c = (saying-none _ c.requires.1 refl c.requires.0, refl)
-
-pub check_modifier-a-requires : goal.check_modifier-a-requires
-check_modifier-a-requires c = (c.loop.invariant.0.owes.fits, saying-first _ c.loop.invariant.0 (omega arith))
-
-pub loop-preserved : goal.loop-preserved
-loop-preserved c = (saying-on _ _ _ (modifiers-more _ _ _ c.loop.invariant.0 (omega arith) c.check_modifier-a.ensures), search rules)
+pub check_vec-requires : goal.check_vec-requires
+check_vec-requires c = record {
+  at_in_bounds = counted_in _ _ _ _ _ c.requires;
+  callable = λ i k s o l r b g.
+      let h : IsOk (modifier (texts c.args.sema) c.args.sema.texts.tree.now k) =
+      checked-first [] ◌∷◌ (modifier (texts c.args.sema)) blank_modifier (check_modifier (scopes c.args.sema) (functions c.args.sema)) (check_modifiers (scopes c.args.sema) (functions c.args.sema)) (modifiers_by _ _) (texts c.args.sema) c.args.sema.texts.tree.now c.args.at c.args.sink c.args.out.now c.requires i k s o l r (λ b k s a b' e. search rules) in
+      search rules;
+}
 
 pub returns : goal.returns
-returns c = modifiers-end _ _ _ c.loop.invariant.0 (omega arith)
+returns c = checked-end [] ◌∷◌ (modifier (texts c.args.sema)) blank_modifier (check_modifier (scopes c.args.sema) (functions c.args.sema)) (check_modifiers (scopes c.args.sema) (functions c.args.sema)) (modifiers_by _ _) _ _ _ _ _ c.requires _ _ _ c.check_vec.ensures (λ b k s a b' e. search rules)

@@ -1,17 +1,11 @@
-use Rattle.accepted.specs.Fields.{counted_in}
+use mathlib.Core.Path.{◌∙◌}
+use Rattle.accepted.specs.Ends.{text-moves}
 use Rattle.accepted.specs.Sizes.{name-sized}
-use Rattle.accepted.proofs.SkipParts.{vec-next}
-use native.Mathlib.Omega.{arith}
+use Rattle.accepted.proofs.SkipParts.{vec-next, vec-room}
 use Rattle.accepted.proofs.parts.skip_names.Goals as goal
 
-pub overflow_add-result : goal.overflow_add-result
-overflow_add-result c = let i = counted_in _ _ _ _ _ c.requires in omega arith
-
-pub bounds-s-at : goal.bounds-s-at
-bounds-s-at c = search counted_in
-
-pub overflow_add-result-2 : goal.overflow_add-result-2
-overflow_add-result-2 c = let i = counted_in _ _ _ _ _ c.requires in omega arith
+pub skip_sized-requires : goal.skip_sized-requires
+skip_sized-requires c = vec-room _ 2 (name-sized _) _ _ _ _ c.requires (text-moves _ _)
 
 pub returns : goal.returns
-returns c = vec-next _ 2 (name-sized _) _ _ _ _ c.requires _ c.from.ensures
+returns c = c.skip_sized.ensures ∙ vec-next _ 2 (name-sized _) _ _ _ _ c.requires

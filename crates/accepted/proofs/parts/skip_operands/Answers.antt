@@ -1,22 +1,16 @@
-use Rattle.std.proofs.Common.{arith, refl}
+use Rattle.std.proofs.Common.{rules, [], ◌∷◌}
+use Rattle.tree.specs.Ans.{IsOk}
+use Rattle.tree.specs.Stmts.{operand}
+use Rattle.tree.specs.Decode.{texts_of}
 use Rattle.accepted.specs.Fields.{counted_in}
-use Rattle.accepted.specs.Remains.{remains-none, remains-first, remains-step, remains-done}
+use Rattle.accepted.proofs.SkipParts.{reached-held, reached-end}
 use Rattle.accepted.proofs.parts.skip_operands.Goals as goal
 
-pub overflow_add-k : goal.overflow_add-k
-overflow_add-k c = let i = counted_in _ _ _ _ _ c.requires in omega arith
-
-pub bounds-s-at : goal.bounds-s-at
-bounds-s-at c = search counted_in
-
-pub loop-init : goal.loop-init
-loop-init c = remains-none _ _ _ _ _ _ c.requires refl
-
-pub skip_operand-k-requires : goal.skip_operand-k-requires
-skip_operand-k-requires c = remains-first c.loop.invariant c.loop-test.true
-
-pub loop-preserved : goal.loop-preserved
-loop-preserved c = remains-step c.loop.invariant c.loop-test.true c.skip_operand-k.ensures
+pub skip_vec-requires : goal.skip_vec-requires
+skip_vec-requires c = record {
+  at_in_bounds = counted_in _ _ _ _ _ c.requires;
+  callable = λ i k l r. let h : IsOk (operand (texts_of c.args.s.now) c.args.s.now k) = reached-held [] ◌∷◌ _ _ _ c.requires _ (λ m n e. search rules) i k l r in search rules;
+}
 
 pub returns : goal.returns
-returns c = remains-done c.loop.invariant c.loop-test.false
+returns c = reached-end [] ◌∷◌ (operand (texts_of c.args.s.now)) _ _ c.requires _ (λ k m e. search rules) _ c.skip_vec.ensures

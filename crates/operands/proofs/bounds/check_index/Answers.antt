@@ -4,7 +4,7 @@ use Rattle.operands.proofs.bounds.check_index.Goals as goal
 
 pub returns-in-None : goal.returns-in-None
 unfolding index_fault_says
-returns-in-None c = rw (← c.index_fault.ensures, c.in-None.is) (emitted-none c.requires.1)
+returns-in-None c = rw (← c.index_fault.ensures, c.in-None.is) emitted-none
 
 pub returns-in-Some-WithoutSize : goal.returns-in-Some-WithoutSize
 unfolding index_fault_says

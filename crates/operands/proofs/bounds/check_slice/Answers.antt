@@ -4,7 +4,7 @@ use Rattle.operands.proofs.bounds.check_slice.Goals as goal
 
 pub returns-in-None : goal.returns-in-None
 unfolding slice_fault_says
-returns-in-None c = rw (← c.slice_fault.ensures, c.in-None.is) (emitted-none c.requires.1)
+returns-in-None c = rw (← c.slice_fault.ensures, c.in-None.is) emitted-none
 
 pub returns-in-Some-WithoutSize : goal.returns-in-Some-WithoutSize
 unfolding slice_fault_says

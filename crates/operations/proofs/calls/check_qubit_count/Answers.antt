@@ -2,7 +2,7 @@ use Rattle.operations.proofs.Arity.{qubits_fit, qubits-differ}
 use Rattle.operations.proofs.calls.check_qubit_count.Goals as goal
 
 pub returns-then-is_arity : goal.returns-then-is_arity
-returns-then-is_arity c = qubits_fit c.args.call _ c.args.decl c.is_arity.ensures c.if-is_arity.true c.requires.2
+returns-then-is_arity c = qubits_fit c.args.call _ c.args.decl c.is_arity.ensures c.if-is_arity.true
 
 pub returns : goal.returns
 returns c = qubits-differ c.args.call _ c.args.decl c.is_arity.ensures c.if-is_arity.false c.report.ensures

@@ -1,0 +1,7 @@
+-- Steps from place to place. Assumes nothing.
+use Rattle.std.specs.Prelude.{ℕ, zero, suc, ◌≡◌}
+
+-- so many steps from a place on lead to another
+abbrev pub Reached : (ℕ → ℕ → Type 0) → ℕ → ℕ → ℕ → Type 0
+Reached step zero start k = k ≡ start
+Reached step (suc n) start k = (m : ℕ) × Reached step n start m × step m k

@@ -1,5 +1,0 @@
-use Rattle.lines.proofs.Lines.{message-line}
-use Rattle.lines.proofs.pieces.Texts.message_line.Goals as goal
-
-pub returns : goal.returns
-returns c = message-line _ c.args.d c.letter.ensures c.head-a.ensures c.message-b.ensures c.copy.ensures
