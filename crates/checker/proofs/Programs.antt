@@ -1,7 +1,7 @@
 -- The program of an accepted file, and what its walk begins with. Assumes nothing.
 use Prim.Native.Nat.{ℕ, ◌≤◌}
 use mathlib.Core.Path.{◌≡◌}
-use mathlib.Core.List.{List}
+use mathlib.Core.List.{List, []}
 use native.Mathlib.Omega.{arith}
 use lib.ListN.{length}
 use Rattle.ast.specs.Tree.{no_stmt}
@@ -12,7 +12,7 @@ use Rattle.tree.specs.Decode.{texts_of, decode}
 use Rattle.sema.specs.Marks.{Key, no_marks}
 use Rattle.sema.specs.Stmts.{new}
 use Rattle.context.specs.declared.State.{State}
-use Rattle.context.specs.View.{Placed, keys_from, marks_of, context_of}
+use Rattle.context.specs.View.{Placed, marks_of, context_of}
 use Rattle.sheet.specs.Sheet.{Distinct}
 use Rattle.tables.specs.Tables.{Begun}
 use Rattle.tables.specs.Laws.{few-empty}
@@ -29,10 +29,10 @@ module _ (tree : List ℕ) (h : IsOk (decode tree)) (at : ℕ) (e : at ≡ next_
   pub program-body : IsOk (body (stmt (texts_of tree) 8) tree at)
   program-body = file-body tree h at e
 
--- a run may start with any index
-pub program-walkable : (tree index : List ℕ) → IsOk (decode tree) → length index ≡ 512 → Walkable tree index 0
-unfolding keys_from Distinct
-program-walkable tree index h x = record { small = file-small tree h; indexed = record { size = x; few = omega arith }; distinct = tt }
+-- a run starts with no keys
+pub program-walkable : (tree : List ℕ) → IsOk (decode tree) → Walkable tree []
+unfolding Distinct
+program-walkable tree h = record { small = file-small tree h; few = omega arith; distinct = tt }
 
 -- a scratch with which a walk begins and a blank sheet are the context that an analysis begins with
 pub new_context : (tree : List ℕ) (ks : List Key) {s t : List ℕ} (m : List ℕ) → Begun s t → marks_of tree ks m ≡ no_marks → context_of tree ks t 1 m ≡ new

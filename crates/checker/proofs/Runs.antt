@@ -16,12 +16,13 @@ use Rattle.sema.specs.Marks.{Key, no_marks}
 use Rattle.sema.specs.Keys.{keys_stmts, keys}
 use Rattle.sema.specs.Stmts.{analyze, analyze_stmts, new}
 use Rattle.context.specs.declared.State.{State}
+use Rattle.context.specs.declared.Key.{Key as KeyValue}
 use Rattle.context.specs.Sink.{Written, written_of, emit}
-use Rattle.context.specs.View.{scopes_of, keys_from, keys_in, marks_of, context_of}
+use Rattle.context.specs.View.{scopes_of, keys_in, marks_of, context_of}
 use Rattle.lines.specs.EmitLaws.{all_bytes, empty as nothing, emit-from, emit-over, emit-few}
 use Rattle.tables.specs.Tables.{tables_end, Begun}
 use Rattle.sheet.specs.Sheet.{Grown}
-use Rattle.sheet.specs.Table.{length-keys}
+use Rattle.sheet.specs.Table.{keys-few}
 use Rattle.context.specs.declared.Sink.{Sink}
 use Rattle.refusal.specs.declared.Refused.{Refused}
 use Rattle.refusal.specs.declared.Refusal.TheVariants.{ManyKeys}
@@ -32,7 +33,7 @@ use Rattle.promises.specs.Walks.{BodyWalked, walk_body}
 use Rattle.promises.specs.Went.{count_of, body_keys, BodyWent}
 use Rattle.claims.specs.Claim.{program_of}
 use Rattle.verdict.specs.Verdict.{Learnt}
-use Rattle.checker.specs.Check.{SameRest, Ran, Known, Told}
+use Rattle.checker.specs.Check.{SameRest, Ran, Told}
 use Rattle.checker.proofs.Programs.{program_is, program-body, new_context}
 
 -- what lies past the bytes of a call, by what lies past the tables
@@ -40,9 +41,9 @@ rest-past : (s s' : List ℕ) → drop tables_end s' ≡ drop tables_end s → d
 rest-past s s' e = sym (drop-drop 14336 tables_end s') ∙ ap (drop 14336) e ∙ drop-drop 14336 tables_end s
 
 -- from one empty scope and no keys, the keys of the whole program
-keys-added : (tree i i' s o s' o' : List ℕ) (st : State) (r : Option State) → BodyWent tree 8 st i s o r i' s' o' → st.keys ≡ 0 → scopes_of s 1 ≡ empty ∷ [] → IsOk (body (stmt (texts_of tree) 8) tree st.at)
+keys-added : (tree : List ℕ) (i i' : List KeyValue) (s o s' o' : List ℕ) (st : State) (r : Option State) → BodyWent tree 8 st i s o r i' s' o' → st.keys ≡ 0 → scopes_of s 1 ≡ empty ∷ [] → IsOk (body (stmt (texts_of tree) 8) tree st.at)
     → (p : Program) → p.statements ≡ value_or no_stmt (body (stmt (texts_of tree) 8) tree st.at) → Grown i' (count_of r) (keys p)
-unfolding keys keys_from
+unfolding keys
 keys-added tree i i' s o s' o' st r w z e h p q =
     let x = body (stmt (texts_of tree) 8) tree st.at in
     let n : keys_in i st.keys ≡ [] = rw z in
@@ -51,12 +52,11 @@ keys-added tree i i' s o s' o' st r w z e h p q =
     rw (f ∙ g, ← q) at w.grown
 
 -- the diagnostics of a whole program, where all of it was walked over
-said : (tree index s o : List ℕ) (keys at n : ℕ) (st r : State) (s' o' : List ℕ) → IsOk (decode tree) → at ≡ next_of (texts tree 0) → st.at ≡ at → written_of st.sink o ≡ nothing o n → ((ks : List Key) → marks_of tree ks st.marks ≡ no_marks)
-    → {u : List ℕ} → Begun s u → BodyWalked tree index keys 8 st u o r s' o' → written_of r.sink o' ≡ emit (program_of tree).texts (analyze (program_of tree)) (nothing o n)
+said : (tree : List ℕ) (ks : List Key) (s o : List ℕ) (at n : ℕ) (st r : State) (s' o' : List ℕ) → IsOk (decode tree) → at ≡ next_of (texts tree 0) → st.at ≡ at → written_of st.sink o ≡ nothing o n → ((ks : List Key) → marks_of tree ks st.marks ≡ no_marks)
+    → {u : List ℕ} → Begun s u → BodyWalked tree ks 8 st u o r s' o' → written_of r.sink o' ≡ emit (program_of tree).texts (analyze (program_of tree)) (nothing o n)
 unfolding analyze
-said tree index s o keys at n st r s' o' h e a b m {u = u} l w =
+said tree ks s o at n st r s' o' h e a b m {u = u} l w =
     let t = texts_of tree in
-    let ks = keys_in index keys in
     let x = body (stmt t 8) tree at in
     let c : context_of tree ks u 1 st.marks ≡ new = new_context tree ks st.marks l (m ks) in
     let g : (walk_body t x (context_of tree ks u 1 st.marks)).1 ≡ (analyze_stmts t (value_or no_stmt x) new).1 =
@@ -64,7 +64,7 @@ said tree index s o keys at n st r s' o' h e a b m {u = u} l w =
     rw (program_is tree h at e) (rw (a, g, b) at w.emitted.says)
 
 -- a run of the walk, and the index for another
-module _ (tree i s o : List ℕ) (at n : ℕ) (st : State) (i' s' o' : List ℕ) (h : IsOk (decode tree)) (e : at ≡ next_of (texts tree 0)) (a : st.at ≡ at) (b : written_of st.sink o ≡ nothing o n) (z : st.keys ≡ 0) (m : (ks : List Key) → marks_of tree ks st.marks ≡ no_marks)
+module _ (tree : List ℕ) (i : List KeyValue) (s o : List ℕ) (at n : ℕ) (st : State) (i' : List KeyValue) (s' o' : List ℕ) (h : IsOk (decode tree)) (e : at ≡ next_of (texts tree 0)) (a : st.at ≡ at) (b : written_of st.sink o ≡ nothing o n) (z : st.keys ≡ 0) (m : (ks : List Key) → marks_of tree ks st.marks ≡ no_marks)
     {u : List ℕ} (l : Begun s u) where
   grown : (r : Option State) → BodyWent tree 8 st i u o r i' s' o' → Grown i' (count_of r) (keys (program_of tree))
   grown r w = keys-added tree i i' u o s' o' st r w z l.scopes_are (rw a (program-body tree h at e)) (program_of tree) (rw a (ap (λ (p : Program). p.statements) (program_is tree h at e)))
@@ -79,7 +79,7 @@ module _ (tree i s o : List ℕ) (at n : ℕ) (st : State) (i' s' o' : List ℕ)
   ran r w =
       let k = grown (Some r) w in
       record {
-        said = (omega (arith, ap length k.0, length-keys i' 0 r.keys, k.1), said tree i' s o r.keys at n st r s' o' h e a b m l w.reached.0);
+        said = (omega (arith, ap length k.0, keys-few i' r.keys, k.1), said tree (keys_in i' r.keys) s o at n st r s' o' h e a b m l w.reached.0);
         scratch = same (Some r) w;
       }
 

@@ -13,7 +13,7 @@ ghost use Rattle.std.proofs.lemmas.List.Edits.{sets};
 ghost use Rattle.verdict.specs.Verdict.{answer_of, Learnt, Listable};
 ghost use Rattle.checker.specs.Check.{IsOk-prop, SameRest, program_listing, Judged, JudgedFile, Ran, Known, Told};
 
-use context::{Index, Places, Sink, State, Texts};
+use context::{Index, Key, Places, Sink, State, Texts};
 use refusal::{Refusal, Refused};
 use verdict::Answer;
 
@@ -36,7 +36,10 @@ impl File<'_> {
         ensures { Ran (program_of self.entry.texts.tree.now) n scratch.old out.old result scratch.new out.new }
     {
         tables::begin(scratch);
-        let mut index: Index = [0; 512];
+        let mut index: Index = [Key {
+            name: 0,
+            index: None,
+        }; 256];
         let sink = Sink {
             // n is a place of the listing buffer: TryFrom would add an error that no place gives.
             n: n as u32,

@@ -1,10 +1,10 @@
 -- What a context that is passed around stands for.
-use Rattle.std.specs.Prelude.{ℕ, List}
+use Rattle.std.specs.Prelude.{List}
 use Rattle.ast.specs.Tree.{Text}
 use Rattle.tree.specs.Decode.{texts_of}
-use Rattle.sema.specs.Symbols.{Table, GateSig, FunctionSig, Symbols}
+use Rattle.sema.specs.Symbols.{Table, FunctionSig, Symbols}
 use Rattle.context.specs.declared.sema_context.SemaContext.{SemaContext}
-use Rattle.context.specs.View.{scopes_of, gates_of, functions_of}
+use Rattle.context.specs.View.{scopes_of, functions_of}
 
 -- its texts, its scopes, and its functions
 abbrev pub texts : SemaContext → List Text

@@ -6,7 +6,9 @@ use Rattle.ast.specs.declared.ClassicalType.{ClassicalType}
 use Rattle.std.specs.Prelude.{Option as Maybe, Some, None}
 use Rattle.sema.specs.Messages
 use Rattle.sema.specs.Symbols.{Symbol, GateSig}
+use Rattle.sema.specs.Marks.{Key}
 use Rattle.context.specs.declared.GateOperand.{GateOperand as Operand}
+use Rattle.context.specs.declared.Key.{Key as KeyValue}
 use Rattle.context.specs.declared.SymbolKind.{SymbolKind}
 use Rattle.context.specs.declared.Symbol.{Symbol as SymbolValue}
 use Rattle.context.specs.declared.GateSig.{GateSig as GateValue}
@@ -14,6 +16,9 @@ use Rattle.context.specs.declared.GateSig.{GateSig as GateValue}
 abbrev pub number_of : Maybe ℕ → Option ℕ
 number_of (Some n) = some n
 number_of None = none
+
+abbrev pub key_of : KeyValue → Key
+key_of k = record { name = k.name; index = number_of k.index }
 
 abbrev pub ends_of : Maybe (ℕ × ℕ) → Option (ℕ × ℕ)
 ends_of (Some (a, b)) = some (a, b)

@@ -1,5 +1,5 @@
 -- What the scratch, the mark sheet and the index of a walk stand for: the context of the analysis.
-use Rattle.std.specs.Prelude.{ℕ, zero, suc, ◌+◌, ◌*◌, ◌/◌, ◌%◌, ◌<◌, ◌≤◌, ◌≡◌, List, [], ◌∷◌, map, true, false, cond, length, get_or, take, drop, ltb}
+use Rattle.std.specs.Prelude.{ℕ, zero, suc, ◌+◌, ◌*◌, ◌<◌, ◌≤◌, ◌≡◌, List, [], ◌∷◌, map, true, false, cond, length, get_or, take, drop, ltb}
 use Rattle.std.proofs.Math.Option.{Option, none, some}
 use Rattle.text.specs.Big.{value}
 use Rattle.span.specs.declared.Span.{Span}
@@ -11,7 +11,9 @@ use Rattle.tree.specs.Stmts.{measure}
 use Rattle.tree.specs.Decode.{texts_of}
 use Rattle.sema.specs.Messages.{SymbolKind, Qubit, Bit, Classical, Const, GateParam, GateQubit}
 use Rattle.sema.specs.Symbols.{Symbol, GateSig, FunctionSig, Table, Scope, Symbols}
-use Rattle.sema.specs.Marks.{Key, key, Marks}
+use Rattle.sema.specs.Marks.{Key, Marks}
+use Rattle.context.specs.declared.Key.{Key as KeyValue}
+use Rattle.context.specs.Values.{key_of}
 use Rattle.sema.specs.Keys.{same_key}
 use Rattle.sema.specs.Stmts.{SemaContext}
 
@@ -110,21 +112,12 @@ functions_of s x = below256 x (function_by s (function_place x) (get_or s (funct
 abbrev pub text_place : List ℕ → TextNumber → ℕ
 text_place places x = get_or places x 0
 
--- The index: two numbers for each key, twice its name, and 1 more if it has an index; the index.
+-- the keys of the code, and so many of an index
+abbrev pub keys_of : List KeyValue → List Key
+keys_of ks = map key_of ks
 
-unfoldable pub key_by : ℕ → ℕ → Key
-key_by head i = elim (head % 2) [ zero ↦ key (head / 2) none | suc b ↦ key (head / 2) (some i) ]
-
-abbrev pub key_at : List ℕ → ℕ → Key
-key_at index k = key_by (get_or index (2 * k) 0) (get_or index (2 * k + 1) 0)
-
--- so many keys from number k on
-unfoldable pub keys_from : List ℕ → ℕ → ℕ → List Key
-keys_from index k zero = []
-keys_from index k (suc n) = key_at index k ∷ keys_from index (suc k) n
-
-abbrev pub keys_in : List ℕ → ℕ → List Key
-keys_in index n = keys_from index 0 n
+abbrev pub keys_in : List KeyValue → ℕ → List Key
+keys_in index n = keys_of (take n index)
 
 -- the text with a number stands in the tree at its place
 pub record TextAt (tree places : List ℕ) (x : TextNumber) : Type 0 where

@@ -18,8 +18,15 @@ pub use texts::Texts;
 // The places of the texts of a tree.
 pub type Places = [u64; 256];
 
-// The index: two numbers for each key.
-pub type Index = [u64; 512];
+// What a mark is kept for: a name, or a name with an index.
+#[derive(Clone, Copy, PartialEq)]
+pub struct Key {
+    pub name: usize,
+    pub index: Option<u64>,
+}
+
+// The keys that a walk has met, and others behind them.
+pub type Index = [Key; 256];
 
 // A value that was read, and the place past it.
 #[derive(Clone, Copy)]

@@ -20,7 +20,7 @@ use Rattle.tree.specs.Decode.{texts_of}
 use Rattle.sema.specs.Messages
 use Rattle.sema.specs.Messages.{error}
 use Rattle.sema.specs.Symbols.{Symbols, FunctionSig, Table, declare_says, after}
-use Rattle.sema.specs.Marks.{effect}
+use Rattle.sema.specs.Marks.{Key, effect}
 use Rattle.sema.specs.Operands.{is_some}
 use Rattle.sema.specs.Exprs.{mismatch}
 use Rattle.sema.specs.Stmts.{SemaContext, init_says, classical_says, analyze_stmt}
@@ -83,16 +83,16 @@ classical_says_lem : (c : SemaContext) (q : Option ClassicalQualifier) (ty : Cla
 unfolding classical_says classical_rest qualifier_says
 classical_says_lem c q ty init a b d e = rw (a, b, d, e, append_assoc)
 
-module _ (tree index : List ℕ) (keys left : ℕ) (st : State) (h : IsOk (stmt (texts_of tree) left tree st.at)) (b : get_or tree st.at 0 ≡ 3) {s o : List ℕ} {s₁ : Sink} {o₁ : List ℕ} {r : Sink} {s' o' : List ℕ} (x : ℕ) (symbol : SymbolValue) (ready : Ready tree s st)
+module _ (tree : List ℕ) (ks : List Key) (left : ℕ) (st : State) (h : IsOk (stmt (texts_of tree) left tree st.at)) (b : get_or tree st.at 0 ≡ 3) {s o : List ℕ} {s₁ : Sink} {o₁ : List ℕ} {r : Sink} {s' o' : List ℕ} (x : ℕ) (symbol : SymbolValue) (ready : Ready tree s st)
     (end : ℕ) (next : end ≡ next_of (stmt (texts_of tree) left tree st.at))
     (declares : Declares (stmt (texts_of tree) left tree st.at) x symbol)
     (spanned : Spans (stmt (texts_of tree) left tree st.at) symbol)
     (d : Declared (texts_of tree) (9 - left) x symbol st.sink s o s₁ s' o₁) where
-  pub classical_walked : Emitted (texts_of tree) (classical_rest (scopes_of s' (9 - left)) (functions_of s') (value_or none (option qualifier tree (st.at + 1))) (type_of (get_or tree (next_of (option qualifier tree (st.at + 1))) 0)) x (init_at tree (next_of (option qualifier tree (st.at + 1)) + 3)) symbol.decl_span) s₁ o₁ r o' → StmtWalked tree index keys left st s o (state_of end r st.marks) s' o'
+  pub classical_walked : Emitted (texts_of tree) (classical_rest (scopes_of s' (9 - left)) (functions_of s') (value_or none (option qualifier tree (st.at + 1))) (type_of (get_or tree (next_of (option qualifier tree (st.at + 1))) 0)) x (init_at tree (next_of (option qualifier tree (st.at + 1)) + 3)) symbol.decl_span) s₁ o₁ r o' → StmtWalked tree ks left st s o (state_of end r st.marks) s' o'
   unfolding analyze_stmt after effect
   classical_walked m =
       let is = classical_decl_is (texts_of tree) left tree st.at h b _ refl _ refl in
-      changed_walked tree index keys left st is end (next ∙ next_is is) ready (context_is refl refl refl (marks-kept _ _)) (becomes_as (after_is x symbol declares spanned is _) d.becomes) d.below (few-after d.becomes ready.few)
+      changed_walked tree ks left st is end (next ∙ next_is is) ready (context_is refl refl refl (marks-kept _ _)) (becomes_as (after_is x symbol declares spanned is _) d.becomes) d.below (few-after d.becomes ready.few)
       (emitted_as (emitted_then d.emitted m) (classical_says_lem _ _ _ _ (name_is x symbol declares spanned is _ _ _ _ refl) (span_is x symbol declares spanned is) (d.becomes.scopes_are ∙ after_is x symbol declares spanned is _) d.becomes.functions_are))
 
 -- what is known of the parts of a classical declaration where they are read

@@ -15,7 +15,7 @@ use Rattle.tree.specs.Stmts.{stmt}
 use Rattle.tree.specs.Decode.{texts_of}
 use Rattle.sema.specs.Messages
 use Rattle.sema.specs.Symbols.{Symbol, Symbols, GateSig, FunctionSig, Table, insert, get_current, declare, declare_says, after}
-use Rattle.sema.specs.Marks.{effect}
+use Rattle.sema.specs.Marks.{Key, effect}
 use Rattle.sema.specs.Stmts.{analyze_stmt}
 use Rattle.accepted.specs.Parts.{next_is, given_is}
 use Rattle.accepted.specs.Stmts.{qubit_decl_is, bit_decl_is}
@@ -24,7 +24,7 @@ use Rattle.context.specs.declared.Symbol.{Symbol as SymbolValue}
 use Rattle.std.specs.Prelude.{Option as Maybe}
 use Rattle.context.specs.declared.State.{State}
 use Rattle.context.specs.Values.{number_of, kind_of, found_of}
-use Rattle.context.specs.View.{keys_in, scopes_of, gates_of, functions_of, marks_of, context_of, stmt_span}
+use Rattle.context.specs.View.{scopes_of, gates_of, functions_of, marks_of, context_of, stmt_span}
 use Rattle.tables.specs.Tables.{Becomes, FewParams}
 use Rattle.tables.specs.Laws.{few-after}
 use Rattle.promises.specs.Emitted.{Emitted, emitted_as}
@@ -34,14 +34,14 @@ use Rattle.declarations.specs.Says.{declared_says}
 use Rattle.declarations.specs.Checked.{Declared}
 
 -- the statement was read as S, which keeps the marks, and the scratch has become what the analysis says
-module _ (tree index : List ℕ) (keys left : ℕ) (st : State) {S : Stmt} {k : ℕ} (e : stmt (texts_of tree) left tree st.at ≡ ok S k) where
+module _ (tree : List ℕ) (ks : List Key) (left : ℕ) (st : State) {S : Stmt} {k : ℕ} (e : stmt (texts_of tree) left tree st.at ≡ ok S k) where
   pub changed_walked : {s o : List ℕ} {ss : Symbols} {gs : Table GateSig} {fs : Table FunctionSig} {r : Sink} {s' o' : List ℕ} (end : ℕ) → end ≡ k → Ready tree s st
-      → (analyze_stmt (texts_of tree) S (context_of tree (keys_in index keys) s (9 - left) st.marks)).0 ≡ record { symbols = ss; gates = gs; functions = fs; measured = marks_of tree (keys_in index keys) st.marks }
+      → (analyze_stmt (texts_of tree) S (context_of tree ks s (9 - left) st.marks)).0 ≡ record { symbols = ss; gates = gs; functions = fs; measured = marks_of tree ks st.marks }
       → Becomes s s' (9 - left) ss gs fs → ((d : ℕ) → d < 9 - left → scopes_of s' d ≡ scopes_of s d) → FewParams (functions_of s')
-      → Emitted (texts_of tree) (analyze_stmt (texts_of tree) S (context_of tree (keys_in index keys) s (9 - left) st.marks)).1 st.sink o r o'
-      → StmtWalked tree index keys left st s o (state_of end r st.marks) s' o'
+      → Emitted (texts_of tree) (analyze_stmt (texts_of tree) S (context_of tree ks s (9 - left) st.marks)).1 st.sink o r o'
+      → StmtWalked tree ks left st s o (state_of end r st.marks) s' o'
   changed_walked end a h g b l f m =
-      stmt-walked tree index keys left st e (record {
+      stmt-walked tree ks left st e (record {
         at = a;
         goes = context_is b.scopes_are b.gates_are b.functions_are refl ∙ sym g;
         emitted = m;
@@ -105,23 +105,23 @@ functions_as e b = rw (← e) b
 pub becomes_as : {s s' : List ℕ} {depth : ℕ} {ss ss' : Symbols} {gs : Table GateSig} {fs : Table FunctionSig} → ss ≡ ss' → Becomes s s' depth ss gs fs → Becomes s s' depth ss' gs fs
 becomes_as e b = rw (← e) b
 
-module _ (tree index : List ℕ) (keys left : ℕ) (st : State) (h : IsOk (stmt (texts_of tree) left tree st.at)) {s o : List ℕ} {r : Sink} {s' o' : List ℕ} (x : ℕ) (symbol : SymbolValue) (ready : Ready tree s st)
+module _ (tree : List ℕ) (ks : List Key) (left : ℕ) (st : State) (h : IsOk (stmt (texts_of tree) left tree st.at)) {s o : List ℕ} {r : Sink} {s' o' : List ℕ} (x : ℕ) (symbol : SymbolValue) (ready : Ready tree s st)
     (end : ℕ) (next : end ≡ next_of (stmt (texts_of tree) left tree st.at))
     (declares : Declares (stmt (texts_of tree) left tree st.at) x symbol)
     (spanned : Spans (stmt (texts_of tree) left tree st.at) symbol)
     (d : Declared (texts_of tree) (9 - left) x symbol st.sink s o r s' o') where
-  registers : (b : ℕ) → get_or tree st.at 0 ≡ b → 0 < b → b < 3 → StmtWalked tree index keys left st s o (state_of end r st.marks) s' o'
+  registers : (b : ℕ) → get_or tree st.at 0 ≡ b → 0 < b → b < 3 → StmtWalked tree ks left st s o (state_of end r st.marks) s' o'
   unfolding analyze_stmt after effect
   registers zero e l u = absurd (omega arith)
   registers (suc zero) e l u =
       let is = qubit_decl_is (texts_of tree) left tree st.at h e _ refl in
-      changed_walked tree index keys left st is end (next ∙ next_is is) ready (context_is refl refl refl (marks-kept _ _)) (becomes_as (after_is x symbol declares spanned is _) d.becomes) d.below (few-after d.becomes ready.few)
+      changed_walked tree ks left st is end (next ∙ next_is is) ready (context_is refl refl refl (marks-kept _ _)) (becomes_as (after_is x symbol declares spanned is _) d.becomes) d.below (few-after d.becomes ready.few)
       (emitted_as d.emitted (says_is x symbol declares spanned is _ _ _ _ _ refl))
   registers (suc (suc zero)) e l u =
       let is = bit_decl_is (texts_of tree) left tree st.at h e _ refl in
-      changed_walked tree index keys left st is end (next ∙ next_is is) ready (context_is refl refl refl (marks-kept _ _)) (becomes_as (after_is x symbol declares spanned is _) d.becomes) d.below (few-after d.becomes ready.few)
+      changed_walked tree ks left st is end (next ∙ next_is is) ready (context_is refl refl refl (marks-kept _ _)) (becomes_as (after_is x symbol declares spanned is _) d.becomes) d.below (few-after d.becomes ready.few)
       (emitted_as d.emitted (says_is x symbol declares spanned is _ _ _ _ _ refl))
   registers (suc (suc (suc b))) e l u = absurd (omega arith)
 
-  pub register-walked : 0 < get_or tree st.at 0 → get_or tree st.at 0 < 3 → StmtWalked tree index keys left st s o (state_of end r st.marks) s' o'
+  pub register-walked : 0 < get_or tree st.at 0 → get_or tree st.at 0 < 3 → StmtWalked tree ks left st s o (state_of end r st.marks) s' o'
   register-walked l u = registers (get_or tree st.at 0) refl l u

@@ -23,6 +23,7 @@ use Rattle.accepted.specs.Fields.{counted_in, counted-few, counted_is}
 use Rattle.accepted.specs.Stmts.{function_def-named, function_def-params, function_def-body, function_def-inside, function_def_is}
 use Rattle.accepted.specs.Exprs.{expr_in}
 use Rattle.accepted.specs.Bodies.{stmt-left}
+use Rattle.sema.specs.Marks.{Key}
 use Rattle.context.specs.declared.Sink.{Sink}
 use Rattle.context.specs.declared.Typing.{Typing}
 use Rattle.context.specs.declared.FunctionSig.{FunctionSig as FunctionValue}
@@ -160,14 +161,14 @@ module _ {tree : List ℕ} {depth at : ℕ} {f : Function} {s : Sink} {scratch o
         same_rest = b.becomes.same_rest ∙ c.same_rest;
       }
 
-pub function_walked : (tree index : List ℕ) (keys left : ℕ) (st : State) → left ≤ 8 → {f : Function} {s o : List ℕ} {s₁ : Sink} {scratch₁ o₁ : List ℕ} {r : Sink} {scratch' o' : List ℕ} → Ready tree s st → FunctionAt tree left st.at f
+pub function_walked : (tree : List ℕ) (ks : List Key) (left : ℕ) (st : State) → left ≤ 8 → {f : Function} {s o : List ℕ} {s₁ : Sink} {scratch₁ o₁ : List ℕ} {r : Sink} {scratch' o' : List ℕ} → Ready tree s st → FunctionAt tree left st.at f
     → Defined tree (st.at + 3) f st.sink s o s₁ scratch₁ o₁ → BodyChecked tree (9 - left) (st.at + 3) f s₁ scratch₁ o₁ r scratch' o'
-    → StmtWalked tree index keys left st s o (state_of f.end r st.marks) scratch' o'
+    → StmtWalked tree ks left st s o (state_of f.end r st.marks) scratch' o'
 unfolding analyze_stmt
-function_walked tree index keys left st u {f = f} {s = s} ready a d b =
+function_walked tree ks left st u {f = f} {s = s} ready a d b =
     let l : 9 - left ≤ 9 = omega arith in
     let c = both l d b in
-    changed_walked tree index keys left st a.is f.end refl ready refl c (λ x m. scopes_fewer s _ (9 - left) x c.scopes_are (omega arith)) (rw b.becomes.functions_are d.few)
+    changed_walked tree ks left st a.is f.end refl ready refl c (λ x m. scopes_fewer s _ (9 - left) x c.scopes_are (omega arith)) (rw b.becomes.functions_are d.few)
     (emitted_as (emitted_then d.emitted b.emitted) (says_function _ _ _ _ _ _ (d.becomes (9 - left) l).scopes_are (d.becomes (9 - left) l).functions_are))
 
 -- what is known of the parts where they are read

@@ -15,7 +15,7 @@ use Rattle.tree.specs.Decode.{texts_of}
 use Rattle.sema.specs.Messages
 use Rattle.sema.specs.Messages.{error, Qubit, Bit, Classical, Const, GateParam, GateQubit}
 use Rattle.sema.specs.Symbols.{Symbol, Symbols, FunctionSig, Table, get, after}
-use Rattle.sema.specs.Marks.{effect}
+use Rattle.sema.specs.Marks.{Key, effect}
 use Rattle.sema.specs.Exprs.{expr_span, check_expr, mismatch}
 use Rattle.sema.specs.Stmts.{SemaContext, assign_says, target_says, assignment_says, analyze_stmt}
 use Rattle.accepted.specs.Cases.{assign_op_of, blank}
@@ -78,16 +78,16 @@ module _ {t : List Text} {ss : Symbols} {fs : Table FunctionSig} (left : ℕ) (t
       → Emitted t ((check_expr ss fs (value_or blank (expr t left tree at))).says ++ mismatch (λ actual. error (m actual) (expr_span (value_or blank (expr t left tree at)))) expected (check_expr ss fs (value_or blank (expr t left tree at))).type) s o q o''
   checked-mismatch m expected e = emitted_then checked-says (emitted_as e (rw (checked-span, checked-type)))
 
-module _ (tree index : List ℕ) (keys left : ℕ) (st : State) (h : IsOk (stmt (texts_of tree) left tree st.at)) (b : get_or tree st.at 0 ≡ 4) where
+module _ (tree : List ℕ) (ks : List Key) (left : ℕ) (st : State) (h : IsOk (stmt (texts_of tree) left tree st.at)) (b : get_or tree st.at 0 ≡ 4) where
   pub assignment-walked : {s o : List ℕ} {t : Typing} {o' : List ℕ} {r : Sink} {o'' : List ℕ} (x : ℕ) (op : AssignOp) (sp : Span) → Ready tree s st → TypingOf (texts_of tree) (scopes_of s (9 - left)) (functions_of s) (held (texts_of tree) tree (st.at + 4)) st.sink o t o'
       → x ≡ number_at 2 tree (st.at + 1) → op ≡ assign_op_of (get_or tree (st.at + 3) 0) → sp ≡ span_at tree t.next
       → Emitted (texts_of tree) (target_by (get (scopes_of s (9 - left)) x) x op (spanned (span_at tree (t.next - 8))) sp (typed_of t.typed)) t.sink o' r o''
-      → StmtWalked tree index keys left st s o (state_of (t.next + 8) r st.marks) s o''
+      → StmtWalked tree ks left st s o (state_of (t.next + 8) r st.marks) s o''
   unfolding analyze_stmt after effect expr_span
   assignment-walked x op sp ready p e g f m =
       let v = assignment-value (texts_of tree) left tree st.at h b in
       let is = assignment_is (texts_of tree) left tree st.at h b _ p.next in
-      same-walked tree index keys left st is ready refl (context_is refl refl refl (sym (marks-kept _ _)))
+      same-walked tree ks left st is ready refl (context_is refl refl refl (sym (marks-kept _ _)))
       (emitted_as (emitted_then (checked-says _ _ _ v p) (emitted_as m (rw (checked-type _ _ _ v p, e, g, f) (target_span _ _ _ _ _ _ _ (checked-span _ _ _ v p))))) (says_target _ _ _ _ _))
       ready.placed
 

@@ -21,6 +21,15 @@ use Rattle.lines.specs.Values.{severity_of, message_of, note_of, secondary_of, d
 use Rattle.lines.specs.Texts.{head_text}
 use Rattle.lines.proofs.Sink.{wrote_then}
 
+pub said-all : {o b xs : List ℕ} {n k : ℕ} → Wrote o n b k xs → Said o n b k xs (length xs)
+said-all w = record { wrote = w; within = omega (arith, w.after) }
+
+pub shown-said : {o b v xs : List ℕ} {n k i : ℕ} → Shown v xs i → Wrote o n b k v → Said o n b k xs i
+shown-said d w = rw (← d.shows) (record { wrote = w; within = omega (arith, w.after, d.short) })
+
+pub then_said : {o b b' xs ys : List ℕ} {n k k' i j : ℕ} → Said o n b k xs i → Said b k b' k' ys j → Said o n b' k' (xs ++ ys) (i + j)
+then_said u w = record { wrote = wrote_then u.wrote w.wrote; within = omega (arith, u.within, w.within) }
+
 module _ {o b xs : List ℕ} {n k i : ℕ} where
   pub note-said : (t : List Text) {m m' : Note} → m ≡ m' → Said o n b k xs i → xs ≡ note_text t (note_of m') → i ≤ 384 → Said o n b k (note_text t (note_of m)) 384
   note-said t e s f h = rw (e, ← f) (record { wrote = s.wrote; within = omega (arith, s.within) })
@@ -41,9 +50,9 @@ module _ (t : List Text) (op : GateOperand) where
   unfolding operand_text subscript
   by-slice e f = rw (e, f) (simp (append_assoc, append-nil))
 
-  pub by-name : op.index ≡ None → op.slice ≡ None → name_at t op.name ++ [] ≡ operand_text t (operand_of op)
+  pub by-name : op.index ≡ None → op.slice ≡ None → name_at t op.name ≡ operand_text t (operand_of op)
   unfolding operand_text subscript
-  by-name e f = rw (e, f) refl
+  by-name e f = rw (e, f) (sym (append-nil (name_at t op.name)))
 
 line-text : (l xs : List ℕ) (sp : Span) → head_text (l ++ (32 ∷ [])) sp ++ (xs ++ (10 ∷ [])) ≡ ended (span_line l sp xs ∷ [])
 unfolding head_text ended span_line spaced
@@ -57,9 +66,9 @@ line-said l xs sp u v w =
       within = omega (arith, u.within, v.within, w.after);
     }
 
-pub message-line : (t : List Text) (d : Diagnostic) {o o₁ o₂ o₃ l : List ℕ} {n a b r : ℕ} → Shown l (letter (severity_of d.severity) ++ (32 ∷ [])) 2 → Said o n o₁ a (head_text l d.span) 96 → Said o₁ a o₂ b (message_text t (message_of d.message)) 384 → Wrote o₂ b o₃ r (10 ∷ []) → Said o n o₃ r (ended (diagnostic_line t (diagnostic_of d) ∷ [])) 512
+pub message-line : (t : List Text) (d : Diagnostic) {o o₁ o₂ o₃ l : List ℕ} {n a b r : ℕ} → l ≡ letter (severity_of d.severity) → Said o n o₁ a (head_text (l ++ (32 ∷ [])) d.span) 96 → Said o₁ a o₂ b (message_text t (message_of d.message)) 384 → Wrote o₂ b o₃ r (10 ∷ []) → Said o n o₃ r (ended (diagnostic_line t (diagnostic_of d) ∷ [])) 512
 unfolding diagnostic_line
-message-line t d {o} {o₁} {n = n} {a} e u v w = line-said _ _ d.span (rw e.shows at u) v w
+message-line t d {o} {o₁} {n = n} {a} e u v w = line-said _ _ d.span (rw e at u) v w
 
 pub note-line : (t : List Text) {sec : Maybe (Note × Span)} {m : Note} {sp : Span} {o o₁ o₂ o₃ : List ℕ} {n a b r : ℕ} → sec ≡ Some (m, sp) → Said o n o₁ a (head_text (text "N ") sp) 96 → Said o₁ a o₂ b (note_text t (note_of m)) 384 → Wrote o₂ b o₃ r (10 ∷ []) → Said o n o₃ r (ended (note_lines t (secondary_of sec))) 512
 unfolding note_lines
@@ -92,14 +101,22 @@ module _ (s : Sink) {b : ℕ} where
 pub report_past : (t : List Text) (d : Diagnostic) (s : Sink) (o : List ℕ) → 256 < s.errors + s.warnings → Reported t d s o s o
 report_past t d s o h = record { emits = sym (one-past t (diagnostic_of d) (written_of s o) h) }
 
--- two numbers and what stands around them
-pub numbers-said : (x y : ℕ) {v w before after o o₁ o₂ o₃ o₄ o' : List ℕ} {n k₁ k₂ k₃ k₄ r : ℕ} → Shown v (decimal x) 20 → Shown w (decimal y) 20 → length before + length after ≤ 32 → Wrote o n o₁ k₁ before → Wrote o₁ k₁ o₂ k₂ v → Wrote o₂ k₂ o₃ k₃ (text " ") → Wrote o₃ k₃ o₄ k₄ w → Wrote o₄ k₄ o' r after → Said o n o' r (before ++ (decimal x ++ (32 ∷ (decimal y ++ after)))) 96
-numbers-said x y d e h s u f v g =
+-- two numbers, a space between them and a byte behind
+pub numbers-said : (x y : ℕ) {o o₁ o₂ o₃ o' : List ℕ} {n k₁ k₂ k₃ r c : ℕ} → Said o n o₁ k₁ (decimal x) 20 → Wrote o₁ k₁ o₂ k₂ (32 ∷ []) → Said o₂ k₂ o₃ k₃ (decimal y) 20 → Wrote o₃ k₃ o' r (c ∷ []) → Said o n o' r (decimal x ++ (32 ∷ (decimal y ++ (c ∷ [])))) 64
+numbers-said x y u f v g =
     record {
-      wrote = rw (← d.shows, ← e.shows) (wrote_then s (wrote_then u (wrote_then f (wrote_then v g))));
-      within = omega (arith, s.after, u.after, f.after, v.after, g.after, d.short, e.short);
+      wrote = wrote_then u.wrote (wrote_then f (wrote_then v.wrote g));
+      within = omega (arith, u.within, f.after, v.within, g.after);
     }
 
-pub first-line : (x y : ℕ) {a b : ℕ} {o o' : List ℕ} {n r : ℕ} → Wrote o n o' r (text "list " ++ (decimal x ++ (32 ∷ (decimal y ++ (10 ∷ []))))) → x ≡ a → y ≡ b → Wrote o n o' r (ended (spaced (text "list") (decimal a ∷ decimal b ∷ []) ∷ []))
+pub head-said : (sp : Span) {c x y n k₁ k₂ r : ℕ} {o o₁ o₂ o' : List ℕ} → x ≡ sp.start → y ≡ sp.end → Wrote o n o₁ k₁ (c ∷ []) → Wrote o₁ k₁ o₂ k₂ (32 ∷ []) → Said o₂ k₂ o' r (decimal x ++ (32 ∷ (decimal y ++ (32 ∷ [])))) 64 → Said o n o' r (head_text (c ∷ (32 ∷ [])) sp) 96
+unfolding head_text
+head-said sp e f u v w =
+    record {
+      wrote = rw (← e, ← f) (wrote_then u (wrote_then v w.wrote));
+      within = omega (arith, u.after, v.after, w.within);
+    }
+
+pub first-line : (x y : ℕ) {a b k : ℕ} {o o₁ o' : List ℕ} {r : ℕ} → Wrote o 0 o₁ k (text "list ") → Said o₁ k o' r (decimal x ++ (32 ∷ (decimal y ++ (10 ∷ [])))) 64 → x ≡ a → y ≡ b → Wrote o 0 o' r (ended (spaced (text "list") (decimal a ∷ decimal b ∷ []) ∷ []))
 unfolding ended spaced
-first-line x y s e f = rw (← e, ← f, append_assoc (decimal x) (32 ∷ decimal y) (10 ∷ [])) s
+first-line x y u s e f = rw (← e, ← f, append_assoc (decimal x) (32 ∷ decimal y) (10 ∷ [])) (wrote_then u s.wrote)

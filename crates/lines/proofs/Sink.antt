@@ -83,3 +83,10 @@ copied {o} {s} {ys} {n} {a} {e} p q r = record { holds = rw r holds; after = ref
         (λ (g : n + length s < length o). let z : e - a ≡ length s = omega arith in rw (z, x) (copied-whole o s n (omega arith)))
         (le-or-lt (length o) (n + length s)))
         (le-or-lt (length o) n)
+
+-- a byte is stored where there is room
+pub put-in : {o : List ℕ} {n b : ℕ} → Wrote o n (set o n b) (n + 1) (b ∷ [])
+put-in = record { holds = refl; after = refl }
+
+pub put-out : {o : List ℕ} {n : ℕ} (b : ℕ) → length o ≤ n → Wrote o n o (n + 1) (b ∷ [])
+put-out {o} {n} b h = record { holds = sym (set_out o n b h); after = refl }

@@ -18,7 +18,7 @@ ghost use Rattle.lines.specs.Texts.{head_text};
 use ast::ClassicalType;
 use context::{GateOperand, Sink, SymbolKind, Texts};
 use messages::{store_message, store_note};
-use pieces::{copy, numbers};
+use pieces::{copy, numbers, put};
 use span::Span;
 
 #[derive(Clone, Copy)]
@@ -146,51 +146,46 @@ pub fn warning(message: Message, span: Span) -> Diagnostic
 }
 
 #[tactic(auto, unfolding(listing::specs::Listing::letter))]
-fn letter(severity: Severity) -> &'static [u8]
-    ensures { Shown result.now (letter (severity_of severity) ++ (32 ∷ [])) 2 }
+fn letter(severity: Severity) -> u8
+    ensures { result ∷ [] ≡ letter (severity_of severity) }
 {
     match severity {
-        Severity::Error => b"E ",
-        Severity::Warning => b"W ",
+        Severity::Error => b'E',
+        Severity::Warning => b'W',
     }
 }
 
 // The head of a line: its letter and its span.
-fn head(out: &mut [u8], n: usize, letter: &[u8], span: Span) -> usize
-    requires { (n < 4294967296) × (length letter.now ≤ 16) }
-    ensures { Said out.old n out.new result (head_text letter.now span) 96 }
+fn head(out: &mut [u8], n: usize, letter: u8, span: Span) -> usize
+    requires { n < 1073741824 }
+    ensures { Said out.old n out.new result (head_text (letter ∷ (32 ∷ [])) span) 96 }
 {
-    numbers(
-        out,
-        n,
-        letter,
-        u64::from(span.start),
-        u64::from(span.end),
-        b" ",
-    )
+    let a = put(out, n, letter);
+    let b = put(out, a, b' ');
+    numbers(out, b, u64::from(span.start), u64::from(span.end), b' ')
 }
 
 // The message's line.
-fn message_line(texts: Texts<'_>, out: &mut [u8], n: usize, d: Diagnostic) -> usize
-    requires { (n < 1048576) × Below (length (texts_of texts.tree.now)) (name_in d.message) }
-    ensures { Said out.old n out.new result (ended (diagnostic_line (texts_of texts.entry.tree.now) (diagnostic_of d) ∷ [])) 512 }
+fn message_line(texts: &Texts, out: &mut [u8], n: usize, d: Diagnostic) -> usize
+    requires { (n < 1048576) × Below (length (texts_of texts.now.tree.now)) (name_in d.message) }
+    ensures { Said out.old n out.new result (ended (diagnostic_line (texts_of texts.now.tree.now) (diagnostic_of d) ∷ [])) 512 }
 {
     let a = head(out, n, letter(d.severity), d.span);
     let b = store_message(texts, out, a, d.message);
-    copy(out, b, b"\n")
+    put(out, b, b'\n')
 }
 
 // The note's line, where there is a note.
-fn note_line(texts: Texts<'_>, out: &mut [u8], n: usize, secondary: Option<(Note, Span)>) -> usize
-    requires { (n < 1048576) × NoteBelow (length (texts_of texts.tree.now)) secondary }
-    ensures { Said out.old n out.new result (ended (note_lines (texts_of texts.entry.tree.now) (secondary_of secondary))) 512 }
+fn note_line(texts: &Texts, out: &mut [u8], n: usize, secondary: Option<(Note, Span)>) -> usize
+    requires { (n < 1048576) × NoteBelow (length (texts_of texts.now.tree.now)) secondary }
+    ensures { Said out.old n out.new result (ended (note_lines (texts_of texts.now.tree.now) (secondary_of secondary))) 512 }
 {
     let Some((note, span)) = secondary else {
         return n;
     };
-    let a = head(out, n, b"N ", span);
+    let a = head(out, n, b'N', span);
     let b = store_note(texts, out, a, note);
-    copy(out, b, b"\n")
+    put(out, b, b'\n')
 }
 
 // One diagnostic more, and the listing's length.
@@ -223,8 +218,8 @@ pub fn report(out: &mut [u8], sink: Sink, texts: Texts<'_>, d: Diagnostic) -> Si
         return sink;
     }
     // std has no From<u32> for usize.
-    let a = message_line(texts, out, sink.n as usize, d);
-    let b = note_line(texts, out, a, d.secondary);
+    let a = message_line(&texts, out, sink.n as usize, d);
+    let b = note_line(&texts, out, a, d.secondary);
     counted(sink, d.severity, b)
 }
 
@@ -232,12 +227,6 @@ pub fn report(out: &mut [u8], sink: Sink, texts: Texts<'_>, d: Diagnostic) -> Si
 pub fn first_line(out: &mut [u8], errors: u16, warnings: u16) -> usize
     ensures { Wrote out.old 0 out.new result (ended (spaced (text "list") (decimal errors ∷ decimal warnings ∷ []) ∷ [])) }
 {
-    numbers(
-        out,
-        0,
-        b"list ",
-        u64::from(errors),
-        u64::from(warnings),
-        b"\n",
-    )
+    let a = copy(out, 0, b"list ");
+    numbers(out, a, u64::from(errors), u64::from(warnings), b'\n')
 }

@@ -1,46 +1,60 @@
 // What each message and note says.
 ghost use Rattle.std.specs.Prelude.{◌≤◌, ◌<◌, ◌++◌, length};
 ghost use Rattle.tree.specs.Decode.{texts_of};
-ghost use Rattle.sema.specs.Messages.{operand_text, message_text, note_text};
+ghost use Rattle.sema.specs.Messages.{name_at, operand_text, message_text, note_text};
 ghost use Rattle.context.specs.Values.{operand_of};
 ghost use Rattle.lines.specs.Stored.{Said};
 ghost use Rattle.lines.specs.Values.{message_of, note_of, name_in, name_in_note, Below};
 
 use super::pieces::Value::{ExpectedName, KindName, Name, Number, PlaceName, Sum, TypeName};
-use super::pieces::{copy, say};
+use super::pieces::{copy, decimal, name_of, put, say};
 use super::{Message, Note};
 use context::{GateOperand, Texts};
 
-// An operand is shown by its index, else by its slice.
-fn operand(texts: Texts<'_>, out: &mut [u8], n: usize, op: GateOperand) -> usize
-    requires { (n < 4294967296) × (op.name < length (texts_of texts.tree.now)) }
-    ensures { Said out.old n out.new result (operand_text (texts_of texts.entry.tree.now) (operand_of op)) 160 }
+// A name between two pieces.
+fn named(texts: &Texts, out: &mut [u8], n: usize, before: &[u8], x: usize, after: &[u8]) -> usize
+    requires { (n < 1073741824) × (x < length (texts_of texts.now.tree.now)) × (length before.now ≤ 32) × (length after.now ≤ 128) }
+    ensures { Said out.old n out.new result (before.now ++ (name_at (texts_of texts.now.tree.now) x ++ after.now)) 256 }
 {
-    let name = Name(op.name);
+    let a = copy(out, n, before);
+    let b = copy(out, a, name_of(texts.tree, texts.places, x));
+    copy(out, b, after)
+}
+
+// An operand is shown by its index, else by its slice.
+fn operand(texts: &Texts, out: &mut [u8], n: usize, op: GateOperand) -> usize
+    requires { (n < 2147483648) × (op.name < length (texts_of texts.now.tree.now)) }
+    ensures { Said out.old n out.new result (operand_text (texts_of texts.now.tree.now) (operand_of op)) 160 }
+{
+    let a = copy(out, n, name_of(texts.tree, texts.places, op.name));
     match (op.index, op.slice) {
-        (Some(i), _) => say(texts, out, n, &[b"", b"[", b"]"], &[name, Number(i)]),
-        (None, Some((a, b))) => say(
-            texts,
-            out,
-            n,
-            &[b"", b"[", b":", b"]"],
-            &[name, Number(a), Number(b)],
-        ),
-        (None, None) => say(texts, out, n, &[b"", b""], &[name]),
+        (Some(i), _) => {
+            let b = put(out, a, b'[');
+            let c = decimal(out, b, i);
+            put(out, c, b']')
+        }
+        (None, Some((x, y))) => {
+            let b = put(out, a, b'[');
+            let c = decimal(out, b, x);
+            let d = put(out, c, b':');
+            let e = decimal(out, d, y);
+            put(out, e, b']')
+        }
+        (None, None) => a,
     }
 }
 
 // An operand between two pieces.
 fn around(
-    texts: Texts<'_>,
+    texts: &Texts,
     out: &mut [u8],
     n: usize,
     before: &[u8],
     op: GateOperand,
     after: &[u8],
 ) -> usize
-    requires { (n < 1073741824) × (op.name < length (texts_of texts.tree.now)) × (length before.now ≤ 32) × (length after.now ≤ 128) }
-    ensures { Said out.old n out.new result (before.now ++ (operand_text (texts_of texts.entry.tree.now) (operand_of op) ++ after.now)) 384 }
+    requires { (n < 1073741824) × (op.name < length (texts_of texts.now.tree.now)) × (length before.now ≤ 32) × (length after.now ≤ 128) }
+    ensures { Said out.old n out.new result (before.now ++ (operand_text (texts_of texts.now.tree.now) (operand_of op) ++ after.now)) 384 }
 {
     let a = copy(out, n, before);
     let b = operand(texts, out, a, op);
@@ -49,19 +63,20 @@ fn around(
 
 // Stores what a message says.
 #[tactic(auto, unfolding(sema::specs::Messages::message_parts))]
-pub(crate) fn store_message(texts: Texts<'_>, out: &mut [u8], n: usize, message: Message) -> usize
-    requires { (n < 1073741824) × Below (length (texts_of texts.tree.now)) (name_in message) }
-    ensures { Said out.old n out.new result (message_text (texts_of texts.entry.tree.now) (message_of message)) 384 }
+pub(crate) fn store_message(texts: &Texts, out: &mut [u8], n: usize, message: Message) -> usize
+    requires { (n < 1073741824) × Below (length (texts_of texts.now.tree.now)) (name_in message) }
+    ensures { Said out.old n out.new result (message_text (texts_of texts.now.tree.now) (message_of message)) 384 }
 {
     match message {
-        Message::AlreadyDeclared(x) => say(
+        Message::AlreadyDeclared(x) => named(
             texts,
             out,
             n,
-            &[b"`", b"` is already declared in this scope"],
-            &[Name(x)],
+            b"`",
+            x,
+            b"` is already declared in this scope",
         ),
-        Message::NotDeclared(x) => say(texts, out, n, &[b"`", b"` is not declared"], &[Name(x)]),
+        Message::NotDeclared(x) => named(texts, out, n, b"`", x, b"` is not declared"),
         Message::ExpectedKind(e, x, k) => say(
             texts,
             out,
@@ -69,15 +84,13 @@ pub(crate) fn store_message(texts: Texts<'_>, out: &mut [u8], n: usize, message:
             &[b"expected ", b", but `", b"` is a ", b""],
             &[ExpectedName(e), Name(x), KindName(k)],
         ),
-        Message::CannotIndexGateQubit(x) => say(
+        Message::CannotIndexGateQubit(x) => named(
             texts,
             out,
             n,
-            &[
-                b"cannot index gate qubit `",
-                b"` \xe2\x80\x94 gate qubits are single wires",
-            ],
-            &[Name(x)],
+            b"cannot index gate qubit `",
+            x,
+            b"` \xe2\x80\x94 gate qubits are single wires",
         ),
         Message::IndexOutOfBounds(i, x, size) => say(
             texts,
@@ -86,15 +99,13 @@ pub(crate) fn store_message(texts: Texts<'_>, out: &mut [u8], n: usize, message:
             &[b"index ", b" is out of bounds for `", b"` (size ", b")"],
             &[Number(i), Name(x), Number(size)],
         ),
-        Message::CannotIndex(x) => say(
+        Message::CannotIndex(x) => named(
             texts,
             out,
             n,
-            &[
-                b"cannot index `",
-                b"` \xe2\x80\x94 it is a single qubit/bit, not a register",
-            ],
-            &[Name(x)],
+            b"cannot index `",
+            x,
+            b"` \xe2\x80\x94 it is a single qubit/bit, not a register",
         ),
         Message::SliceOutOfBounds(a, b, x, size) => say(
             texts,
@@ -109,13 +120,7 @@ pub(crate) fn store_message(texts: Texts<'_>, out: &mut [u8], n: usize, message:
             ],
             &[Number(a), Number(b), Name(x), Number(size)],
         ),
-        Message::CannotSlice(x) => say(
-            texts,
-            out,
-            n,
-            &[b"cannot slice scalar `", b"`"],
-            &[Name(x)],
-        ),
+        Message::CannotSlice(x) => named(texts, out, n, b"cannot slice scalar `", x, b"`"),
         Message::UsedIndex(x, i) => say(
             texts,
             out,
@@ -131,19 +136,21 @@ pub(crate) fn store_message(texts: Texts<'_>, out: &mut [u8], n: usize, message:
             op,
             b"` after measurement \xe2\x80\x94 qubit state has collapsed and cannot be used in a gate without an explicit `reset`",
         ),
-        Message::ConstWithoutInit(x) => say(
+        Message::ConstWithoutInit(x) => named(
             texts,
             out,
             n,
-            &[b"const `", b"` requires an initializer"],
-            &[Name(x)],
+            b"const `",
+            x,
+            b"` requires an initializer",
         ),
-        Message::InputWithInit(x) => say(
+        Message::InputWithInit(x) => named(
             texts,
             out,
             n,
-            &[b"input `", b"` cannot have an initializer"],
-            &[Name(x)],
+            b"input `",
+            x,
+            b"` cannot have an initializer",
         ),
         Message::CannotInitialize(ty, x, a) => say(
             texts,
@@ -159,26 +166,15 @@ pub(crate) fn store_message(texts: Texts<'_>, out: &mut [u8], n: usize, message:
             &[b"cannot assign ", b" expression to ", b" `", b"`"],
             &[TypeName(a), TypeName(e), Name(x)],
         ),
-        Message::CompoundNumeric => say(
+        Message::CompoundNumeric => copy(out, n, b"compound assignment requires numeric operands"),
+        Message::AssignToConst(x) => named(texts, out, n, b"cannot assign to const `", x, b"`"),
+        Message::NotAssignable(x) => named(
             texts,
             out,
             n,
-            &[b"compound assignment requires numeric operands"],
-            &[],
-        ),
-        Message::AssignToConst(x) => say(
-            texts,
-            out,
-            n,
-            &[b"cannot assign to const `", b"`"],
-            &[Name(x)],
-        ),
-        Message::NotAssignable(x) => say(
-            texts,
-            out,
-            n,
-            &[b"`", b"` is not an assignable classical variable"],
-            &[Name(x)],
+            b"`",
+            x,
+            b"` is not an assignable classical variable",
         ),
         Message::GateParams(x, expected, got) => say(
             texts,
@@ -199,34 +195,28 @@ pub(crate) fn store_message(texts: Texts<'_>, out: &mut [u8], n: usize, message:
             ],
             &[Name(x), Sum(total, qubits), Number(got)],
         ),
-        Message::GateNotDefined(x) => say(
-            texts,
+        Message::GateNotDefined(x) => named(texts, out, n, b"gate `", x, b"` is not defined"),
+        Message::ParamsNumeric => copy(out, n, b"gate parameters must be numeric"),
+        Message::Broadcasting => copy(
             out,
             n,
-            &[b"gate `", b"` is not defined"],
-            &[Name(x)],
+            b"gate register operands must have the same length for broadcasting",
         ),
-        Message::ParamsNumeric => say(texts, out, n, &[b"gate parameters must be numeric"], &[]),
-        Message::Broadcasting => say(
+        Message::GateAlreadyDefined(x) => named(
             texts,
             out,
             n,
-            &[b"gate register operands must have the same length for broadcasting"],
-            &[],
+            b"gate `",
+            x,
+            b"` is already defined",
         ),
-        Message::GateAlreadyDefined(x) => say(
+        Message::FunctionAlreadyDefined(x) => named(
             texts,
             out,
             n,
-            &[b"gate `", b"` is already defined"],
-            &[Name(x)],
-        ),
-        Message::FunctionAlreadyDefined(x) => say(
-            texts,
-            out,
-            n,
-            &[b"function `", b"` is already defined"],
-            &[Name(x)],
+            b"function `",
+            x,
+            b"` is already defined",
         ),
         Message::FunctionReturns(x, r, a) => say(
             texts,
@@ -259,28 +249,14 @@ pub(crate) fn store_message(texts: Texts<'_>, out: &mut [u8], n: usize, message:
             op,
             b"` has already been measured",
         ),
-        Message::DelayNumeric => say(texts, out, n, &[b"delay duration must be numeric"], &[]),
-        Message::ForVariable => say(
-            texts,
+        Message::DelayNumeric => copy(out, n, b"delay duration must be numeric"),
+        Message::ForVariable => copy(out, n, b"for-loop variable must have type int"),
+        Message::ControlCount => copy(
             out,
             n,
-            &[b"for-loop variable must have type int"],
-            &[],
+            b"control count must be a positive compile-time integer",
         ),
-        Message::ControlCount => say(
-            texts,
-            out,
-            n,
-            &[b"control count must be a positive compile-time integer"],
-            &[],
-        ),
-        Message::PowerNumeric => say(
-            texts,
-            out,
-            n,
-            &[b"power modifier argument must be numeric"],
-            &[],
-        ),
+        Message::PowerNumeric => copy(out, n, b"power modifier argument must be numeric"),
         Message::MustHaveType(place, e, a) => say(
             texts,
             out,
@@ -288,33 +264,30 @@ pub(crate) fn store_message(texts: Texts<'_>, out: &mut [u8], n: usize, message:
             &[b"", b" must have type ", b", found ", b""],
             &[PlaceName(place), TypeName(e), TypeName(a)],
         ),
-        Message::NotClassical(x) => say(
+        Message::NotClassical(x) => named(
             texts,
             out,
             n,
-            &[b"`", b"` cannot be used as a classical expression"],
-            &[Name(x)],
+            b"`",
+            x,
+            b"` cannot be used as a classical expression",
         ),
-        Message::CannotIndexBit(x) => say(
+        Message::CannotIndexBit(x) => named(texts, out, n, b"cannot index scalar bit `", x, b"`"),
+        Message::NotIndexable(x) => named(
             texts,
             out,
             n,
-            &[b"cannot index scalar bit `", b"`"],
-            &[Name(x)],
+            b"`",
+            x,
+            b"` is not an indexable classical register",
         ),
-        Message::NotIndexable(x) => say(
+        Message::FunctionNotDefined(x) => named(
             texts,
             out,
             n,
-            &[b"`", b"` is not an indexable classical register"],
-            &[Name(x)],
-        ),
-        Message::FunctionNotDefined(x) => say(
-            texts,
-            out,
-            n,
-            &[b"function `", b"` is not defined"],
-            &[Name(x)],
+            b"function `",
+            x,
+            b"` is not defined",
         ),
         Message::FunctionArguments(x, expected, got) => say(
             texts,
@@ -330,38 +303,24 @@ pub(crate) fn store_message(texts: Texts<'_>, out: &mut [u8], n: usize, message:
             &[b"argument ", b" to `", b"` must be ", b", found ", b""],
             &[Number(i), Name(x), TypeName(e), TypeName(a)],
         ),
-        Message::NegationNumeric => say(
-            texts,
+        Message::NegationNumeric => copy(out, n, b"unary negation requires a numeric operand"),
+        Message::ArithmeticNumeric => copy(
             out,
             n,
-            &[b"unary negation requires a numeric operand"],
-            &[],
+            b"arithmetic operators require numeric operands",
         ),
-        Message::ArithmeticNumeric => say(
-            texts,
-            out,
-            n,
-            &[b"arithmetic operators require numeric operands"],
-            &[],
-        ),
-        Message::ComparisonTypes => say(
-            texts,
-            out,
-            n,
-            &[b"comparison operands have incompatible types"],
-            &[],
-        ),
+        Message::ComparisonTypes => copy(out, n, b"comparison operands have incompatible types"),
     }
 }
 
 // Stores what a note says.
 #[tactic(auto, unfolding(sema::specs::Messages::note_parts))]
-pub(crate) fn store_note(texts: Texts<'_>, out: &mut [u8], n: usize, note: Note) -> usize
-    requires { (n < 1073741824) × Below (length (texts_of texts.tree.now)) (name_in_note note) }
-    ensures { Said out.old n out.new result (note_text (texts_of texts.entry.tree.now) (note_of note)) 384 }
+pub(crate) fn store_note(texts: &Texts, out: &mut [u8], n: usize, note: Note) -> usize
+    requires { (n < 1073741824) × Below (length (texts_of texts.now.tree.now)) (name_in_note note) }
+    ensures { Said out.old n out.new result (note_text (texts_of texts.now.tree.now) (note_of note)) 384 }
 {
     match note {
-        Note::FirstDeclared(x) => say(texts, out, n, &[b"`", b"` first declared here"], &[Name(x)]),
+        Note::FirstDeclared(x) => named(texts, out, n, b"`", x, b"` first declared here"),
         Note::DeclaredAs(x, k) => say(
             texts,
             out,
@@ -376,17 +335,18 @@ pub(crate) fn store_note(texts: Texts<'_>, out: &mut [u8], n: usize, note: Note)
             &[b"`", b"` declared with size ", b" here"],
             &[Name(x), Number(size)],
         ),
-        Note::DeclaredWithoutSize(x) => say(
+        Note::DeclaredWithoutSize(x) => named(
             texts,
             out,
             n,
-            &[b"`", b"` declared without a size here"],
-            &[Name(x)],
+            b"`",
+            x,
+            b"` declared without a size here",
         ),
-        Note::MeasuredHere => say(texts, out, n, &[b"qubit was measured here"], &[]),
-        Note::DefinedHere(x) => say(texts, out, n, &[b"`", b"` defined here"], &[Name(x)]),
-        Note::FirstDefined => say(texts, out, n, &[b"first defined here"], &[]),
-        Note::TargetDeclared => say(texts, out, n, &[b"measurement target declared here"], &[]),
-        Note::FunctionDefined => say(texts, out, n, &[b"function defined here"], &[]),
+        Note::MeasuredHere => copy(out, n, b"qubit was measured here"),
+        Note::DefinedHere(x) => named(texts, out, n, b"`", x, b"` defined here"),
+        Note::FirstDefined => copy(out, n, b"first defined here"),
+        Note::TargetDeclared => copy(out, n, b"measurement target declared here"),
+        Note::FunctionDefined => copy(out, n, b"function defined here"),
     }
 }

@@ -1,5 +1,5 @@
 // The pieces of lines, and their storing.
-ghost use Rattle.std.specs.Prelude.{◌≡◌, ◌≤◌, ◌<◌, ◌+◌, ◌++◌, ◌∷◌, length};
+ghost use Rattle.std.specs.Prelude.{◌≡◌, ◌≤◌, ◌<◌, ◌+◌, ◌++◌, ◌∷◌, [], length};
 ghost use Rattle.std.specs.List.{All};
 ghost use Rattle.text.specs.Decimal.{decimal};
 ghost use Rattle.tree.specs.Decode.{texts_of};
@@ -50,6 +50,17 @@ pub(crate) fn copy(out: &mut [u8], n: usize, s: &[u8]) -> usize
     n + s.len()
 }
 
+// Stores one byte, where there is room.
+pub(crate) fn put(out: &mut [u8], n: usize, b: u8) -> usize
+    requires { n + 1 < 18446744073709551616 }
+    ensures { Wrote out.old n out.new result (b ∷ []) }
+{
+    if n < out.len() {
+        out[n] = b;
+    }
+    n + 1
+}
+
 // A number in decimal, as its digits in a lent buffer.
 pub(crate) fn number(v: u64, digits: &mut Buffer) -> &[u8]
     ensures { Shown result.now (decimal v) 20 }
@@ -57,30 +68,30 @@ pub(crate) fn number(v: u64, digits: &mut Buffer) -> &[u8]
     digits.format(v).as_bytes()
 }
 
-// Stores two numbers and what stands around them.
-pub(crate) fn numbers(
-    out: &mut [u8],
-    n: usize,
-    before: &[u8],
-    first: u64,
-    second: u64,
-    after: &[u8],
-) -> usize
-    requires { (n < 4294967296) × (length before.now ≤ 16) × (length after.now ≤ 16) }
-    ensures { Said out.old n out.new result (before.now ++ (decimal first ++ (32 ∷ (decimal second ++ after.now)))) 96 }
+// Stores a number in decimal.
+pub(crate) fn decimal(out: &mut [u8], n: usize, v: u64) -> usize
+    requires { n < 4294967296 }
+    ensures { Said out.old n out.new result (decimal v) 20 }
 {
     let mut digits = Buffer::new();
-    let a = copy(out, n, before);
-    let b = copy(out, a, number(first, &mut digits));
-    let c = copy(out, b, b" ");
-    let d = copy(out, c, number(second, &mut digits));
-    copy(out, d, after)
+    copy(out, n, number(v, &mut digits))
+}
+
+// Stores two numbers, a space between them and a byte behind.
+pub(crate) fn numbers(out: &mut [u8], n: usize, first: u64, second: u64, after: u8) -> usize
+    requires { n < 2147483648 }
+    ensures { Said out.old n out.new result (decimal first ++ (32 ∷ (decimal second ++ (after ∷ [])))) 64 }
+{
+    let a = decimal(out, n, first);
+    let b = put(out, a, b' ');
+    let c = decimal(out, b, second);
+    put(out, c, after)
 }
 
 // The next piece of a text: a part of the tree or of the wording. The digits of a number stand in neither, and are lent.
-fn piece<'a: 'b, 'b>(texts: Texts<'a>, value: Value, digits: &'b mut Buffer) -> &'b [u8]
-    requires { Named (length (texts_of texts.tree.now)) value }
-    ensures { Shown result.now (value_text (texts_of texts.entry.tree.now) value) (value_room value) }
+fn piece<'a: 'b, 'b>(texts: &Texts<'a>, value: Value, digits: &'b mut Buffer) -> &'b [u8]
+    requires { Named (length (texts_of texts.now.tree.now)) value }
+    ensures { Shown result.now (value_text (texts_of texts.now.tree.now) value) (value_room value) }
 {
     match value {
         Value::Name(x) => name_of(texts.tree, texts.places, x),
@@ -95,7 +106,7 @@ fn piece<'a: 'b, 'b>(texts: Texts<'a>, value: Value, digits: &'b mut Buffer) -> 
 
 // Stores words and values in turn: words come first and last.
 pub(crate) fn say(
-    texts: Texts<'_>,
+    texts: &Texts,
     out: &mut [u8],
     n: usize,
     words: &'static [&'static [u8]],
@@ -103,8 +114,8 @@ pub(crate) fn say(
 ) -> usize
     requires turns { length words.now ≡ length values.now + 1 }
     requires few { n + room words.now values.now < 9223372036854775808 }
-    requires named { All (Named (length (texts_of texts.tree.now))) values.now }
-    ensures { Said out.old n out.new result (joined (texts_of texts.entry.tree.now) words.now values.now) (room words.now values.now) }
+    requires named { All (Named (length (texts_of texts.now.tree.now))) values.now }
+    ensures { Said out.old n out.new result (joined (texts_of texts.now.tree.now) words.now values.now) (room words.now values.now) }
 {
     let mut digits = Buffer::new();
     let mut at = n;

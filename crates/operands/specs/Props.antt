@@ -4,7 +4,7 @@ use mathlib.Core.HLevel.{×_prop}
 use Rattle.std.proofs.Props.{props}
 use Rattle.tree.specs.Ans.{Ans, ok, refused, IsOk}
 use Rattle.sema.specs.Marks.{Key}
-use Rattle.context.specs.View.{PlaceOk, Placed}
+use Rattle.context.specs.View.{PlaceOk}
 use Rattle.sheet.specs.Sheet.{Distinct}
 
 pub distinct_once : (ks : List Key) → IsProp (Distinct ks)

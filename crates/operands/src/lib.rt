@@ -111,7 +111,7 @@ fn check_use_after_measure(
     if let Some((a, b)) = op.slice {
         return uses::check_slice_use(m, out, op.name, a, b, span, sink);
     }
-    let place = sheet::lookup(m.marks, m.index, m.keys, op.name, op.index);
+    let place = sheet::lookup(m.marks, m.keys, op.name, op.index);
     if place == 0 {
         return sink;
     }
@@ -157,8 +157,7 @@ fn passes(m: Measured<'_, '_>, at: usize) -> bool
         return false;
     }
     let op = single_at(m.sema.texts.tree, at);
-    is_quiet(m.sema, op, Expected::Qubit)
-        && sheet::lookup(m.marks, m.index, m.keys, op.name, op.index) == 0
+    is_quiet(m.sema, op, Expected::Qubit) && sheet::lookup(m.marks, m.keys, op.name, op.index) == 0
 }
 
 // A Vec of them.

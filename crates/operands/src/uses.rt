@@ -41,7 +41,7 @@ pub fn check_slice_use(
     requires { x < length (texts m.sema) }
     ensures { Emitted (texts m.entry.sema) (used_index_says x span (smallest_covered (marks m.entry) x (a, b))) sink out.old result out.new }
 {
-    let Some((i, place)) = sheet::smallest(m.marks, m.index, m.keys, x, a, b) else {
+    let Some((i, place)) = sheet::smallest(m.marks, m.keys, x, a, b) else {
         return sink;
     };
     // std has no From<u64> for usize, and a place is one of the tree.

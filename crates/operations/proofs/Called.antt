@@ -16,7 +16,7 @@ use Rattle.tree.specs.Stmts.{held, modifier, operand, stmt}
 use Rattle.tree.specs.Decode.{texts_of}
 use Rattle.sema.specs.Messages
 use Rattle.sema.specs.Symbols.{Symbols, GateSig, FunctionSig, Table, after}
-use Rattle.sema.specs.Marks.{Marks, effect, apply, mark}
+use Rattle.sema.specs.Marks.{Key, Marks, effect, apply, mark}
 use Rattle.sema.specs.Constants.{controls}
 use Rattle.sema.specs.Operands.{use_operands}
 use Rattle.sema.specs.Exprs.{check_modifiers}
@@ -24,7 +24,7 @@ use Rattle.sema.specs.Stmts.{SemaContext, arity_says, standard_says, signature_s
 use Rattle.context.specs.declared.Sink.{Sink}
 use Rattle.context.specs.declared.After.{After}
 use Rattle.context.specs.declared.State.{State}
-use Rattle.context.specs.View.{scopes_of, gates_of, functions_of, keys_in, marks_of, context_of}
+use Rattle.context.specs.View.{scopes_of, gates_of, functions_of, marks_of, context_of}
 use Rattle.accepted.specs.Parts.{value_or, given_ok}
 use Rattle.accepted.specs.Stmts.{gate_call-named, gate_call-params, gate_call-args, gate_call_is, gate_call-inside}
 use Rattle.promises.specs.Emitted.{Emitted, emitted_as, emitted_then}
@@ -93,18 +93,18 @@ module _ (tree : List ℕ) (left at : ℕ) (h : IsOk (stmt (texts_of tree) left 
   pub call_is : stmt (texts_of tree) left tree at ≡ ok (Stmt.GateCall at c.name (value_or [] (vec (modifier (texts_of tree)) tree (at + 3))) (value_or no_expr (exprs (held (texts_of tree)) tree c.params_at)) (value_or [] (vec (operand (texts_of tree)) tree c.args_at)) c.span) (c.end + 8)
   call_is = gate_call_is (texts_of tree) left tree at h b _ co.params_at _ co.args_at _ co.end ∙ rw (co.name, co.span)
 
-pub call-walked : (tree index : List ℕ) (keys left : ℕ) (st : State) (h : IsOk (stmt (texts_of tree) left tree st.at)) (b : get_or tree st.at 0 ≡ 5) (c : Call) (co : CallOf (texts_of tree) tree st.at c) {s o : List ℕ} → Ready tree s st
+pub call-walked : (tree : List ℕ) (ks : List Key) (left : ℕ) (st : State) (h : IsOk (stmt (texts_of tree) left tree st.at)) (b : get_or tree st.at 0 ≡ 5) (c : Call) (co : CallOf (texts_of tree) tree st.at c) {s o : List ℕ} → Ready tree s st
     → {r : Sink} {q : List ℕ} → Emitted (texts_of tree) (signature_by (texts_of tree) (gates_of s) c) st.sink o r q
     → {r' : Sink} {q' : List ℕ} → Emitted (texts_of tree) (check_modifiers (scopes_of s (9 - left)) (functions_of s) (value_or [] (vec (modifier (texts_of tree)) tree (st.at + 3))) ++ params_say (plain_context (scopes_of s (9 - left)) (functions_of s)) (value_or no_expr (exprs (held (texts_of tree)) tree (next_of (vec (modifier (texts_of tree)) tree (st.at + 3)))))) r q r' q'
-    → {r'' : Sink} {o' : List ℕ} → Emitted (texts_of tree) (use_operands (scopes_of s (9 - left)) (marks_of tree (keys_in index keys) st.marks) c.span (value_or [] (vec (operand (texts_of tree)) tree c.args_at)) ++ widths_say c.span (register_widths (scopes_of s (9 - left)) (value_or [] (vec (operand (texts_of tree)) tree c.args_at)))) r' q' r'' o'
-    → StmtWalked tree index keys left st s o (state_of (c.end + 8) r'' st.marks) s o'
+    → {r'' : Sink} {o' : List ℕ} → Emitted (texts_of tree) (use_operands (scopes_of s (9 - left)) (marks_of tree ks st.marks) c.span (value_or [] (vec (operand (texts_of tree)) tree c.args_at)) ++ widths_say c.span (register_widths (scopes_of s (9 - left)) (value_or [] (vec (operand (texts_of tree)) tree c.args_at)))) r' q' r'' o'
+    → StmtWalked tree ks left st s o (state_of (c.end + 8) r'' st.marks) s o'
 unfolding analyze_stmt after effect apply mark gate_call_says
-call-walked tree index keys left st h b c co {s} ready p v w =
-    let d : SemaContext = context_of tree (keys_in index keys) s (9 - left) st.marks in
+call-walked tree ks left st h b c co {s} ready p v w =
+    let d : SemaContext = context_of tree ks s (9 - left) st.marks in
     let ms : List GateModifier = value_or [] (vec (modifier (texts_of tree)) tree (st.at + 3)) in
     let ps : Exprs = value_or no_expr (exprs (held (texts_of tree)) tree c.params_at) in
     let ops : List GateOperand = value_or [] (vec (operand (texts_of tree)) tree c.args_at) in
     let signature = emitted_as p (signature_says_lem (texts_of tree) c ps ms ops co.params co.controls co.args d) in
     let values = emitted_as (rw (← co.params_at) at v) (ap (λ ds. check_modifiers d.symbols d.functions ms ++ ds) (params-plain d ps)) in
     let rest = emitted_as (emitted_then values w) (append_assoc (check_modifiers d.symbols d.functions ms) (params_say d ps) (use_operands d.symbols d.measured c.span ops ++ widths_say c.span (register_widths d.symbols ops))) in
-    same-walked tree index keys left st (call_is tree left st.at h b c co) ready refl refl (emitted_then signature rest) ready.placed
+    same-walked tree ks left st (call_is tree left st.at h b c co) ready refl refl (emitted_then signature rest) ready.placed

@@ -26,9 +26,9 @@ use Rattle.context.specs.declared.GateOperand.{GateOperand as Operand}
 use Rattle.context.specs.declared.Sink.{Sink}
 use Rattle.context.specs.declared.After.{After}
 use Rattle.context.specs.declared.State.{State}
-use Rattle.std.specs.Prelude.{Option as Maybe, Some, None}
+use Rattle.std.specs.Prelude.{Option as Maybe}
 use Rattle.context.specs.Values.{operand_of, number_of, ends_of}
-use Rattle.context.specs.View.{number_at, PlaceOk, Placed, scopes_of, keys_in, marks_of, mark_by, measure_span, span_at, context_of}
+use Rattle.context.specs.View.{number_at, PlaceOk, Placed, scopes_of, marks_of, mark_by, measure_span, span_at, context_of}
 use Rattle.accepted.specs.Cases.{blank_operand}
 use Rattle.accepted.specs.Parts.{value_or, is_ok, given_ok, given_is, next_is, value_is, start, known, past-here, checked}
 use Rattle.accepted.specs.Numbers.{one_byte, number-join}
@@ -175,15 +175,15 @@ module _ (tree : List ℕ) (left : ℕ) (st : State) (h : IsOk (stmt (texts_of t
   unfolding Covers
   measure-covers ks ss keyed = λ key g. keyed.each _ _ (measure-read _ refl) key g
 
-  pub measure-walked : (index : List ℕ) (keys : ℕ) {s o : List ℕ} → Ready tree s st → (a : After) {o' : List ℕ}
-      → SaidOf (texts_of tree) (λ target. measure_says (context_of tree (keys_in index keys) s (9 - left) st.marks) (operand_of op) target (span_at tree a.next)) (option (operand (texts_of tree)) tree k) st.sink o a o'
-      → (sheet : List ℕ) → marks_of tree (keys_in index keys) sheet ≡ apply (mark_measured (scopes_of s (9 - left)) (operand_of op)) (measure_span tree st.at) (marks_of tree (keys_in index keys) st.marks)
+  pub measure-walked : (ks : List Key) {s o : List ℕ} → Ready tree s st → (a : After) {o' : List ℕ}
+      → SaidOf (texts_of tree) (λ target. measure_says (context_of tree ks s (9 - left) st.marks) (operand_of op) target (span_at tree a.next)) (option (operand (texts_of tree)) tree k) st.sink o a o'
+      → (sheet : List ℕ) → marks_of tree ks sheet ≡ apply (mark_measured (scopes_of s (9 - left)) (operand_of op)) (measure_span tree st.at) (marks_of tree ks st.marks)
       → (PlaceOk tree st.at → Placed tree st.marks → Placed tree sheet)
-      → StmtWalked tree index keys left st s o (state_of (a.next + 8) a.sink sheet) s o'
+      → StmtWalked tree ks left st s o (state_of (a.next + 8) a.sink sheet) s o'
   unfolding analyze_stmt after effect
-  measure-walked index keys {s} ready a p sheet m q =
-      same-walked tree index keys left st (measure-read a.next p.next) ready refl
-      (context_by tree (keys_in index keys) sheet s (9 - left) (rw (measured-span left tree st.at h b k (sym (next_is e)) a.next p.next) at m))
+  measure-walked ks {s} ready a p sheet m q =
+      same-walked tree ks left st (measure-read a.next p.next) ready refl
+      (context_by tree ks sheet s (9 - left) (rw (measured-span left tree st.at h b k (sym (next_is e)) a.next p.next) at m))
       (said_ok none measure-option p) (q (place_ok left tree st.at h b) ready.placed)
 
 -- the keys that a measure statement sets

@@ -12,7 +12,7 @@ ghost use Rattle.tree.specs.Decode.{texts_of};
 ghost use Rattle.sema.specs.Operands.{use_operands};
 ghost use Rattle.context.specs.Given.{texts, scopes};
 ghost use Rattle.operands.specs.Measured.{marks};
-ghost use Rattle.context.specs.View.{Placed, scopes_of, keys_in, marks_of, span_at};
+ghost use Rattle.context.specs.View.{Placed, scopes_of, keys_in, keys_of, marks_of, span_at};
 ghost use Rattle.sheet.specs.Behind.{Blank};
 ghost use Rattle.sheet.specs.Sheet.{Indexed, Grown};
 ghost use Rattle.promises.specs.Went.{stmt_keys};
@@ -23,7 +23,7 @@ use accepted::numbers::span_at;
 use accepted::operands::operand_at;
 use accepted::parts::skip_operands;
 use calls::{call_at, check_args, check_signature, check_values};
-use context::{After, Index, SemaContext, Sink, Texts};
+use context::{After, Index, Key, SemaContext, Sink, Texts};
 use lines::{Expected, Message};
 use measures::{check_measure, mark_measured};
 use operands::Measured;
@@ -60,29 +60,23 @@ fn use_targets(m: Measured<'_, '_>, out: &mut [u8], at: usize, sink: Sink) -> Af
 // A barrier uses its operands.
 pub fn barrier<'a>(
     texts: Texts<'a>,
-    index: &'a Index,
+    keys: &'a [Key],
     scratch: &'a [u8],
     out: &mut [u8],
-    keys: usize,
     left: usize,
     marks: &[u16; 256],
     at: usize,
     sink: Sink,
 ) -> After
-    requires { Walkable texts.tree.now index.now keys × Ready texts.tree.now scratch.now (state_of at sink marks.now) × IsOk (stmt (texts_of texts.tree.now) left texts.tree.now at) × (left ≤ 8) × (get_or texts.tree.now at 0 ≡ 10) }
-    ensures { StmtWalked texts.entry.tree.now index.now keys left (state_of at sink marks.now) scratch.now out.old (state_of result.next result.sink marks.now) scratch.now out.new }
+    requires { Walkable texts.tree.now keys.now × Ready texts.tree.now scratch.now (state_of at sink marks.now) × IsOk (stmt (texts_of texts.tree.now) left texts.tree.now at) × (left ≤ 8) × (get_or texts.tree.now at 0 ≡ 10) }
+    ensures { StmtWalked texts.entry.tree.now (keys_of keys.now) left (state_of at sink marks.now) scratch.now out.old (state_of result.next result.sink marks.now) scratch.now out.new }
 {
     let sema = SemaContext {
         texts,
         scratch,
         depth: 9 - left,
     };
-    let m = Measured {
-        sema,
-        index,
-        keys,
-        marks,
-    };
+    let m = Measured { sema, keys, marks };
     let a = use_targets(m, out, at + 1, sink);
     let said = a.sink;
     After {
@@ -94,29 +88,23 @@ pub fn barrier<'a>(
 // A delay: a numeric duration, and the operands it uses.
 pub fn delay<'a>(
     texts: Texts<'a>,
-    index: &'a Index,
+    keys: &'a [Key],
     scratch: &'a [u8],
     out: &mut [u8],
-    keys: usize,
     left: usize,
     marks: &[u16; 256],
     at: usize,
     sink: Sink,
 ) -> After
-    requires { Walkable texts.tree.now index.now keys × Ready texts.tree.now scratch.now (state_of at sink marks.now) × IsOk (stmt (texts_of texts.tree.now) left texts.tree.now at) × (left ≤ 8) × (get_or texts.tree.now at 0 ≡ 11) }
-    ensures { StmtWalked texts.entry.tree.now index.now keys left (state_of at sink marks.now) scratch.now out.old (state_of result.next result.sink marks.now) scratch.now out.new }
+    requires { Walkable texts.tree.now keys.now × Ready texts.tree.now scratch.now (state_of at sink marks.now) × IsOk (stmt (texts_of texts.tree.now) left texts.tree.now at) × (left ≤ 8) × (get_or texts.tree.now at 0 ≡ 11) }
+    ensures { StmtWalked texts.entry.tree.now (keys_of keys.now) left (state_of at sink marks.now) scratch.now out.old (state_of result.next result.sink marks.now) scratch.now out.new }
 {
     let sema = SemaContext {
         texts,
         scratch,
         depth: 9 - left,
     };
-    let m = Measured {
-        sema,
-        index,
-        keys,
-        marks,
-    };
+    let m = Measured { sema, keys, marks };
     let a = typing::require_numeric(sema, out, at + 1, Message::DelayNumeric, sink);
     let checked = a.sink;
     let b = use_targets(m, out, a.next, checked);
@@ -130,18 +118,17 @@ pub fn delay<'a>(
 // A reset clears the marks of its operand.
 pub fn reset<'a>(
     texts: Texts<'a>,
-    index: &'a Index,
+    keys: &'a [Key],
     scratch: &'a [u8],
     out: &mut [u8],
-    keys: usize,
     left: usize,
     marks: &mut [u16; 256],
     at: usize,
     sink: Sink,
 ) -> After
-    requires { Walkable texts.tree.now index.now keys × Ready texts.tree.now scratch.now (state_of at sink marks.old) × IsOk (stmt (texts_of texts.tree.now) left texts.tree.now at) × (left ≤ 8) × (get_or texts.tree.now at 0 ≡ 9) }
-    ensures walked { StmtWalked texts.entry.tree.now index.now keys left (state_of at sink marks.old) scratch.now out.old (state_of result.next result.sink marks.new) scratch.now out.new }
-    ensures behind { (n : ℕ) → keys ≤ n → Blank n marks.old → Blank n marks.new }
+    requires { Walkable texts.tree.now keys.now × Ready texts.tree.now scratch.now (state_of at sink marks.old) × IsOk (stmt (texts_of texts.tree.now) left texts.tree.now at) × (left ≤ 8) × (get_or texts.tree.now at 0 ≡ 9) }
+    ensures walked { StmtWalked texts.entry.tree.now (keys_of keys.now) left (state_of at sink marks.old) scratch.now out.old (state_of result.next result.sink marks.new) scratch.now out.new }
+    ensures behind { (n : ℕ) → length keys.now ≤ n → Blank n marks.old → Blank n marks.new }
 {
     let sema = SemaContext {
         texts,
@@ -150,7 +137,7 @@ pub fn reset<'a>(
     };
     let op = operand_at(texts.tree, at + 1);
     let said = operands::check_operand(sema, out, op.value, Expected::Qubit, sink);
-    sheet::clear(marks, index, keys, op.value);
+    sheet::clear(marks, keys, op.value);
     After {
         next: op.next + 8,
         sink: said,
@@ -178,19 +165,18 @@ pub fn add_keys(
 // A measurement: its operands, and the marks that it sets.
 pub fn measure<'a>(
     texts: Texts<'a>,
-    index: &'a Index,
+    keys: &'a [Key],
     scratch: &'a [u8],
     out: &mut [u8],
-    keys: usize,
     left: usize,
     marks: &mut [u16; 256],
     at: usize,
     sink: Sink,
 ) -> After
-    requires walkable { Walkable texts.tree.now index.now keys × Ready texts.tree.now scratch.now (state_of at sink marks.old) × IsOk (stmt (texts_of texts.tree.now) left texts.tree.now at) × (left ≤ 8) × (get_or texts.tree.now at 0 ≡ 8) }
-    requires stmt_keyed { StmtKeyed (keys_in index.now keys) (scopes_of scratch.now (9 - left)) (stmt (texts_of texts.tree.now) left texts.tree.now at) }
-    ensures walked { StmtWalked texts.entry.tree.now index.now keys left (state_of at sink marks.old) scratch.now out.old (state_of result.next result.sink marks.new) scratch.now out.new }
-    ensures behind { (n : ℕ) → keys ≤ n → Blank n marks.old → Blank n marks.new }
+    requires walkable { Walkable texts.tree.now keys.now × Ready texts.tree.now scratch.now (state_of at sink marks.old) × IsOk (stmt (texts_of texts.tree.now) left texts.tree.now at) × (left ≤ 8) × (get_or texts.tree.now at 0 ≡ 8) }
+    requires stmt_keyed { StmtKeyed (keys_of keys.now) (scopes_of scratch.now (9 - left)) (stmt (texts_of texts.tree.now) left texts.tree.now at) }
+    ensures walked { StmtWalked texts.entry.tree.now (keys_of keys.now) left (state_of at sink marks.old) scratch.now out.old (state_of result.next result.sink marks.new) scratch.now out.new }
+    ensures behind { (n : ℕ) → length keys.now ≤ n → Blank n marks.old → Blank n marks.new }
 {
     let sema = SemaContext {
         texts,
@@ -200,13 +186,12 @@ pub fn measure<'a>(
     let qubit = operand_at(texts.tree, at + 1);
     let m = Measured {
         sema,
-        index,
         keys,
         marks: &*marks,
     };
     let a = check_measure(m, out, qubit.value, qubit.next, sink);
     let said = a.sink;
-    mark_measured(index, scratch, 9 - left, keys, marks, qubit.value, at);
+    mark_measured(keys, scratch, 9 - left, marks, qubit.value, at);
     After {
         next: a.next + 8,
         sink: said,
@@ -216,29 +201,23 @@ pub fn measure<'a>(
 // A gate call: its arity, its modifiers and parameters, and its operands.
 pub fn gate_call<'a>(
     texts: Texts<'a>,
-    index: &'a Index,
+    keys: &'a [Key],
     scratch: &'a [u8],
     out: &mut [u8],
-    keys: usize,
     left: usize,
     marks: &[u16; 256],
     at: usize,
     sink: Sink,
 ) -> After
-    requires { Walkable texts.tree.now index.now keys × Ready texts.tree.now scratch.now (state_of at sink marks.now) × IsOk (stmt (texts_of texts.tree.now) left texts.tree.now at) × (left ≤ 8) × (get_or texts.tree.now at 0 ≡ 5) }
-    ensures { StmtWalked texts.entry.tree.now index.now keys left (state_of at sink marks.now) scratch.now out.old (state_of result.next result.sink marks.now) scratch.now out.new }
+    requires { Walkable texts.tree.now keys.now × Ready texts.tree.now scratch.now (state_of at sink marks.now) × IsOk (stmt (texts_of texts.tree.now) left texts.tree.now at) × (left ≤ 8) × (get_or texts.tree.now at 0 ≡ 5) }
+    ensures { StmtWalked texts.entry.tree.now (keys_of keys.now) left (state_of at sink marks.now) scratch.now out.old (state_of result.next result.sink marks.now) scratch.now out.new }
 {
     let sema = SemaContext {
         texts,
         scratch,
         depth: 9 - left,
     };
-    let m = Measured {
-        sema,
-        index,
-        keys,
-        marks,
-    };
+    let m = Measured { sema, keys, marks };
     let call = call_at(texts.tree, at, left);
     let named = check_signature(sema, out, call, sink);
     let checked = check_values(sema, out, at + 3, named);

@@ -12,8 +12,8 @@ ghost use Rattle.sema.specs.Stmts.{measure_target, measure_says};
 ghost use Rattle.context.specs.Values.{number_of, operand_of};
 ghost use Rattle.context.specs.Given.{texts, scopes};
 ghost use Rattle.operands.specs.Measured.{marks};
-ghost use Rattle.context.specs.View.{PlaceOk, Placed, scopes_of, keys_in, marks_of, measure_span, span_at, context_of};
-ghost use Rattle.sheet.specs.Sheet.{Indexed, Covers};
+ghost use Rattle.context.specs.View.{PlaceOk, Placed, scopes_of, keys_of, marks_of, measure_span, span_at, context_of};
+ghost use Rattle.sheet.specs.Sheet.{Covers};
 ghost use Rattle.sheet.specs.Behind.{Blank};
 ghost use Rattle.promises.specs.Emitted.{Emitted};
 ghost use Rattle.promises.specs.Typings.{SaidOf};
@@ -21,30 +21,29 @@ ghost use Rattle.promises.specs.Walks.{Walkable};
 
 use accepted::numbers::span_at;
 use accepted::operands::operand_at;
-use context::{After, GateOperand, Index, SemaContext, Sink};
+use context::{After, GateOperand, Key, SemaContext, Sink};
 use lines::{Expected, Message};
 use operands::Measured;
 use span::Span;
 
 // Sets the marks of the measure statement at `at`.
 pub fn mark_measured(
-    index: &Index,
+    keys: &[Key],
     scratch: &[u8],
     depth: usize,
-    keys: usize,
     marks: &mut [u16; 256],
     qubit: GateOperand,
     at: usize,
 )
-    requires { (length marks.old ≡ 256) × Indexed index.now keys × (65536 ≤ length scratch.now) × (depth ≤ 9) × (qubit.name < 256) × (0 < at) × (at < 65536) × Covers (keys_in index.now keys) (mark_measured (scopes_of scratch.now depth) (operand_of qubit)) }
+    requires { (length keys.now ≤ 256) × (65536 ≤ length scratch.now) × (depth ≤ 9) × (qubit.name < 256) × (0 < at) × (at < 65536) × Covers (keys_of keys.now) (mark_measured (scopes_of scratch.now depth) (operand_of qubit)) }
     ensures placed { (tree : List ℕ) → PlaceOk tree at → Placed tree marks.old → Placed tree marks.new }
-    ensures marks { (tree : List ℕ) → marks_of tree (keys_in index.now keys) marks.new ≡ apply (mark_measured (scopes_of scratch.now depth) (operand_of qubit)) (measure_span tree at) (marks_of tree (keys_in index.now keys) marks.old) }
-    ensures behind { (n : ℕ) → keys ≤ n → Blank n marks.old → Blank n marks.new }
+    ensures marks { (tree : List ℕ) → marks_of tree (keys_of keys.now) marks.new ≡ apply (mark_measured (scopes_of scratch.now depth) (operand_of qubit)) (measure_span tree at) (marks_of tree (keys_of keys.now) marks.old) }
+    ensures behind { (n : ℕ) → length keys.now ≤ n → Blank n marks.old → Blank n marks.new }
 {
     let name = qubit.name;
     let size = tables::size_of(scratch, depth, name);
     // at is a place of the tree, below 16,384: TryFrom would add an error that no place gives.
-    sheet::set(marks, index, keys, qubit, size, at as u16);
+    sheet::set(marks, keys, qubit, size, at as u16);
 }
 
 // Was it measured before?
@@ -58,7 +57,7 @@ fn warn_measured(
     requires { qubit.name < length (texts m.sema) }
     ensures { Emitted (texts m.entry.sema) (unless (not (is_some (lookup_measured (marks m.entry) qubit.name (number_of qubit.index)))) (warning (already_measured (operand_of qubit)) span)) sink out.old result out.new }
 {
-    if sheet::lookup(m.marks, m.index, m.keys, qubit.name, qubit.index) == 0 {
+    if sheet::lookup(m.marks, m.keys, qubit.name, qubit.index) == 0 {
         return sink;
     }
     lines::report(
@@ -116,7 +115,7 @@ pub fn check_measure(
     sink: Sink,
 ) -> After
     requires { (qubit.name < length (texts m.sema)) × IsOk (option (operand (texts m.sema)) m.sema.texts.tree.now at) × (next_of (option (operand (texts m.sema)) m.sema.texts.tree.now at) + 8 ≤ length m.sema.texts.tree.now) }
-    ensures { SaidOf (texts m.entry.sema) (λ target. measure_says (context_of m.entry.sema.texts.tree.now (keys_in m.entry.index.now m.entry.keys) m.entry.sema.scratch.now m.entry.sema.depth m.entry.marks.now) (operand_of qubit) target (span_at m.entry.sema.texts.tree.now result.next)) (option (operand (texts m.entry.sema)) m.entry.sema.texts.tree.now at) sink out.old result out.new }
+    ensures { SaidOf (texts m.entry.sema) (λ target. measure_says (context_of m.entry.sema.texts.tree.now (keys_of m.entry.keys.now) m.entry.sema.scratch.now m.entry.sema.depth m.entry.marks.now) (operand_of qubit) target (span_at m.entry.sema.texts.tree.now result.next)) (option (operand (texts m.entry.sema)) m.entry.sema.texts.tree.now at) sink out.old result out.new }
 {
     let s = operands::check_operand(m.sema, out, qubit, Expected::Qubit, sink);
     let a = check_target_at(m.sema, out, qubit, at, s);

@@ -11,7 +11,7 @@ use Rattle.sema.specs.Marks.{Marks, Key, keep, mark, apply}
 use Rattle.sema.specs.Stmts.{SemaContext, analyze_stmt}
 use Rattle.context.specs.declared.Sink.{Sink}
 use Rattle.context.specs.declared.State.{State}
-use Rattle.context.specs.View.{Placed, keys_in, context_of}
+use Rattle.context.specs.View.{Placed, context_of}
 use Rattle.accepted.specs.Parts.{next_is, given_is}
 use Rattle.promises.specs.Emitted.{Emitted}
 use Rattle.promises.specs.Walks.{state_of, Ready, Passable, Walk, Walked, walk_stmt, StmtWalked}
@@ -32,18 +32,18 @@ module _ {tree : List ℕ} {t : List Text} {ks : List Key} {depth : ℕ} {w v : 
   walked_as e f h = rw (← e, ← f) h
 
 -- a statement that was read as S and ends at `end`
-module _ (tree index : List ℕ) (keys left : ℕ) (st : State) {S : Stmt} {end : ℕ} (e : stmt (texts_of tree) left tree st.at ≡ ok S end) where
+module _ (tree : List ℕ) (ks : List Key) (left : ℕ) (st : State) {S : Stmt} {end : ℕ} (e : stmt (texts_of tree) left tree st.at ≡ ok S end) where
   walk_is : walk_stmt (texts_of tree) (stmt (texts_of tree) left tree st.at) ≡ analyze_stmt (texts_of tree) S
   walk_is = given_is e _ _
 
-  pub stmt-walked : {s o : List ℕ} {r : State} {s' o' : List ℕ} → Walked tree (texts_of tree) (keys_in index keys) (9 - left) (analyze_stmt (texts_of tree) S) end st s o r s' o' → StmtWalked tree index keys left st s o r s' o'
+  pub stmt-walked : {s o : List ℕ} {r : State} {s' o' : List ℕ} → Walked tree (texts_of tree) ks (9 - left) (analyze_stmt (texts_of tree) S) end st s o r s' o' → StmtWalked tree ks left st s o r s' o'
   stmt-walked h = walked_as (sym walk_is) (sym (next_is e)) h
 
   -- where the scratch stays as it is
   pub same-walked : {s o : List ℕ} {r : State} {o' : List ℕ} → Ready tree s st → r.at ≡ end
-      → context_of tree (keys_in index keys) s (9 - left) r.marks ≡ (analyze_stmt (texts_of tree) S (context_of tree (keys_in index keys) s (9 - left) st.marks)).0
-      → Emitted (texts_of tree) (analyze_stmt (texts_of tree) S (context_of tree (keys_in index keys) s (9 - left) st.marks)).1 st.sink o r.sink o'
-      → Placed tree r.marks → StmtWalked tree index keys left st s o r s o'
+      → context_of tree ks s (9 - left) r.marks ≡ (analyze_stmt (texts_of tree) S (context_of tree ks s (9 - left) st.marks)).0
+      → Emitted (texts_of tree) (analyze_stmt (texts_of tree) S (context_of tree ks s (9 - left) st.marks)).1 st.sink o r.sink o'
+      → Placed tree r.marks → StmtWalked tree ks left st s o r s o'
   same-walked h a g m p =
       walked_as (sym walk_is) (sym (next_is e))
       (record { at = a; goes = g; emitted = m; below = λ d l. refl; same_length = refl; same_rest = refl; few = h.few; placed = p })

@@ -12,11 +12,13 @@ use Rattle.sema.specs.Keys.{has_key}
 use Rattle.sema.specs.KeyCount.{SetsStmt}
 use Rattle.sema.specs.Stmts.{SemaContext, analyze_stmt, analyze_stmts}
 use Rattle.context.specs.declared.After.{After}
+use Rattle.context.specs.declared.Key.{Key as KeyValue}
+use Rattle.sema.specs.Limits.{key_limit}
 use Rattle.context.specs.declared.Sink.{Sink}
 use Rattle.context.specs.declared.State.{State}
-use Rattle.context.specs.View.{Placed, keys_in, scopes_of, functions_of, context_of}
+use Rattle.context.specs.View.{Placed, keys_of, scopes_of, functions_of, context_of}
 use Rattle.tables.specs.Tables.{tables_end, FewParams}
-use Rattle.sheet.specs.Sheet.{Indexed, Distinct}
+use Rattle.sheet.specs.Sheet.{Distinct}
 use Rattle.promises.specs.Emitted.{Emitted}
 
 -- a state from its parts, where it plays no part how many keys there are
@@ -24,10 +26,10 @@ abbrev pub state_of : ℕ → Sink → List ℕ → State
 state_of at sink marks = record { at = at; sink = sink; keys = 0; marks = marks }
 
 -- what holds before every statement of a walk, whatever the scratch, the listing and the marks
-pub record Walkable (tree index : List ℕ) (keys : ℕ) : Type 0 where
+pub record Walkable (tree : List ℕ) (keys : List KeyValue) : Type 0 where
   pub small : length tree ≤ file_limit
-  pub indexed : Indexed index keys
-  pub distinct : Distinct (keys_in index keys)
+  pub few : length keys ≤ key_limit
+  pub distinct : Distinct (keys_of keys)
 
 -- what holds of the scratch and of the state
 pub record Ready (tree scratch : List ℕ) (st : State) : Type 0 where
@@ -41,7 +43,7 @@ pub record Passable (tree scratch : List ℕ) : Type 0 where
   pub room : 65536 ≤ length scratch
   pub few : FewParams (functions_of scratch)
 
--- every key that the statement that was read sets is in the index
+-- every key that the statement that was read sets is there
 pub record StmtKeyed (ks : List Key) (ss : Symbols) (x : Ans Stmt) : Type 0 where
   pub each : (st : Stmt) (n : ℕ) → x ≡ ok st n → (k : Key) → SetsStmt st ss k → has_key ks k ≡ true
 
@@ -70,17 +72,17 @@ pub record Walked (tree : List ℕ) (t : List Text) (ks : List Key) (depth : ℕ
   pub placed : Placed tree r.marks
 
 -- So of one statement, and of a body, whose statements have so many levels left.
-abbrev pub StmtWalked : List ℕ → List ℕ → ℕ → ℕ → State → List ℕ → List ℕ → State → List ℕ → List ℕ → Type 0
-StmtWalked tree index keys left st s o r s' o' =
-    Walked tree (texts_of tree) (keys_in index keys) (9 - left) (walk_stmt (texts_of tree) (stmt (texts_of tree) left tree st.at))
+abbrev pub StmtWalked : List ℕ → List Key → ℕ → State → List ℕ → List ℕ → State → List ℕ → List ℕ → Type 0
+StmtWalked tree ks left st s o r s' o' =
+    Walked tree (texts_of tree) ks (9 - left) (walk_stmt (texts_of tree) (stmt (texts_of tree) left tree st.at))
     (next_of (stmt (texts_of tree) left tree st.at)) st s o r s' o'
 
-abbrev pub BodyWalked : List ℕ → List ℕ → ℕ → ℕ → State → List ℕ → List ℕ → State → List ℕ → List ℕ → Type 0
-BodyWalked tree index keys left st s o r s' o' =
-    Walked tree (texts_of tree) (keys_in index keys) (9 - left) (walk_body (texts_of tree) (body (stmt (texts_of tree) left) tree st.at))
+abbrev pub BodyWalked : List ℕ → List Key → ℕ → State → List ℕ → List ℕ → State → List ℕ → List ℕ → Type 0
+BodyWalked tree ks left st s o r s' o' =
+    Walked tree (texts_of tree) ks (9 - left) (walk_body (texts_of tree) (body (stmt (texts_of tree) left) tree st.at))
     (next_of (body (stmt (texts_of tree) left) tree st.at)) st s o r s' o'
 
 -- So of one statement that leaves the marks, whatever they and the keys are.
 abbrev pub StmtPassed : List ℕ → ℕ → ℕ → Sink → List ℕ → List ℕ → After → List ℕ → List ℕ → Type 0
 StmtPassed tree left at sink s o r s' o' =
-    (index : List ℕ) (keys : ℕ) (marks : List ℕ) → Placed tree marks → StmtWalked tree index keys left (state_of at sink marks) s o (state_of r.next r.sink marks) s' o'
+    (ks : List Key) (marks : List ℕ) → Placed tree marks → StmtWalked tree ks left (state_of at sink marks) s o (state_of r.next r.sink marks) s' o'

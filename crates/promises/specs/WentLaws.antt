@@ -1,6 +1,6 @@
 -- Laws of an index that grows: what was walked over with fewer keys was so with more, and what a later part asks. Assumes nothing.
-use Rattle.std.specs.Prelude.{ℕ, ◌≤◌, ◌≡◌, List, [], ◌++◌, length, Some, None}
-use Rattle.std.proofs.Common.{sym, ap, ◌∙◌, append-nil, arith, length-append}
+use Rattle.std.specs.Prelude.{ℕ, ◌≤◌, ◌≡◌, List, [], ◌++◌, length, take, Some, None}
+use Rattle.std.proofs.Common.{sym, ap, ◌∙◌, append-nil, arith, length-append, length-take}
 use Rattle.ast.specs.Tree.{Text, Stmt, Stmts, Else}
 use Rattle.tree.specs.Ans.{Ans, ok, refused, given}
 use Rattle.sema.specs.Limits.{key_limit}
@@ -11,8 +11,9 @@ use Rattle.sema.proofs.KeyCount.{grown-stmt, grown_stmts, grown_else}
 use Rattle.sema.specs.LawsKeys.{Grown}
 use Rattle.context.specs.declared.State.{State}
 use Rattle.context.specs.View.{keys_in, marks_of}
-use Rattle.sheet.specs.Sheet.{Distinct}
-use Rattle.sheet.specs.Table.{length-keys}
+use Rattle.sheet.specs.Sheet.{Indexed, Distinct}
+use Rattle.context.specs.declared.Key.{Key as KeyValue}
+use Rattle.sheet.specs.Table.{length-keys, keys-few}
 use Rattle.sheet.specs.Different.{distinct-said, distinct_tested}
 use Rattle.sheet.specs.Behind.{Blank, blank-more, marks-more}
 use Rattle.promises.specs.Walks.{Walkable, Walk, Walked}
@@ -76,21 +77,19 @@ pub walked_at : {tree : List ℕ} {t : List Text} {ks : List Key} {depth : ℕ} 
 walked_at w x y a b c d e = record { at = c ∙ w.at; goes = rw (b, e) w.goes; emitted = rw (a, b, d) w.emitted; below = w.below; same_length = w.same_length; same_rest = w.same_rest; few = w.few; placed = rw e w.placed }
 
 -- the keys of an index are so many
-pub blank-keys : {n : ℕ} {sheet : List ℕ} (i : List ℕ) → Blank n sheet → Blank (length (keys_in i n)) sheet
-blank-keys {n} i b = rw (length-keys i 0 n) b
+pub blank-keys : {i : List KeyValue} {n : ℕ} {sheet : List ℕ} → Indexed i n → Blank n sheet → Blank (length (keys_in i n)) sheet
+blank-keys t b = rw (length-keys t) b
 
 -- what later parts ask of the index
-pub walkable_longer : {tree i i' : List ℕ} {n m : ℕ} {ls : List Key} → Walkable tree i n → Longer (keys_in i n) ls → keys_in i' m ≡ ls → length i' ≡ length i → m ≤ key_limit → Walkable tree i' m
-walkable_longer {tree} {i} {i'} w g a l f =
-    let z : length i' ≡ 512 = l ∙ w.indexed.size in
-    record {
-      small = w.small;
-      indexed = record { size = z; few = f };
-      distinct = rw a (g.distinct w.distinct);
-    }
+pub indexed_longer : {i i' : List KeyValue} {n m : ℕ} → Indexed i n → length i' ≡ length i → m ≤ key_limit → Indexed i' m
+indexed_longer t l f = record { size = l ∙ t.size; few = f }
+
+pub walkable_longer : {tree : List ℕ} (i i' : List KeyValue) (n m : ℕ) {ls : List Key} → Walkable tree (take n i) → Longer (keys_in i n) ls → keys_in i' m ≡ ls → m ≤ key_limit → Walkable tree (take m i')
+walkable_longer i i' n m w g a f =
+    record { small = w.small; few = omega (arith, length-take m i'); distinct = rw a (g.distinct w.distinct) }
 
 -- too many keys stay too many: the walk has stopped
-pub went_over : {i i' : List ℕ} {ks : List Key} {s s' : List ℕ} {W : State → Type 0} → Went i i' ks s s' None W → (ls : List Key) → length ks ≤ length ls → (X : State → Type 0) → Went i i' ls s s' None X
+pub went_over : {i i' : List KeyValue} {ks : List Key} {s s' : List ℕ} {W : State → Type 0} → Went i i' ks s s' None W → (ls : List Key) → length ks ≤ length ls → (X : State → Type 0) → Went i i' ls s s' None X
 went_over {i} {i'} {ks} w ls l X =
     record {
       grown = omega (arith, w.grown);
@@ -101,7 +100,7 @@ went_over {i} {i'} {ks} w ls l X =
     }
 
 -- what else holds of the state r, where the walk did not stop
-pub went_as : {i i' : List ℕ} {ks : List Key} {s s' : List ℕ} {w : State} {W : State → Type 0} → Went i i' ks s s' (Some w) W → (r : State) → r.keys ≡ w.keys → {X : State → Type 0} → (W w → X r) → (Blank w.keys w.marks → Blank w.keys r.marks) → Went i i' ks s s' (Some r) X
+pub went_as : {i i' : List KeyValue} {ks : List Key} {s s' : List ℕ} {w : State} {W : State → Type 0} → Went i i' ks s s' (Some w) W → (r : State) → r.keys ≡ w.keys → {X : State → Type 0} → (W w → X r) → (Blank w.keys w.marks → Blank w.keys r.marks) → Went i i' ks s s' (Some r) X
 went_as g r f walks blank =
     record {
       grown = rw f g.grown;
@@ -112,7 +111,7 @@ went_as g r f walks blank =
     }
 
 -- a sheet that was blank behind the keys is so behind more
-pub blank_longer : (i i' : List ℕ) {n m : ℕ} {ls : List Key} {sheet : List ℕ} → Longer (keys_in i n) ls → keys_in i' m ≡ ls → Blank n sheet → Blank m sheet
-blank_longer i i' {n} {m} {ls} g a b =
+pub blank_longer : (i i' : List KeyValue) {n m : ℕ} {ls : List Key} {sheet : List ℕ} → Indexed i n → Longer (keys_in i n) ls → keys_in i' m ≡ ls → Blank n sheet → Blank m sheet
+blank_longer i i' {n} {m} {ls} t g a b =
     let e : length (keys_in i' m) ≡ length ls = ap length a in
-    blank-more (omega (arith, length-keys i 0 n, length-keys i' 0 m, longer_length g, e)) b
+    blank-more (omega (arith, length-keys t, keys-few i' m, longer_length g, e)) b

@@ -1,6 +1,7 @@
 -- Whether a text is among the earlier ones: a law for each way out of the code. Assumes nothing.
 use Rattle.std.proofs.Common.{◌≡◌, refl, sym, ap, ◌∙◌, ℕ, zero, suc, ◌+◌, ◌<◌, ◌≤◌, List, [], ◌∷◌, ◌++◌, map, length, get_or, drop, Bool, true, false, ◌&&◌, ◌||◌, eqb, arith, add-one}
-use Rattle.std.specs.List.{list_any}
+use Rattle.std.specs.List.{list_any, fold}
+use mathlib.Core.Bool.{or-false, or_assoc}
 use Rattle.std.specs.Cmp.Lexicographic.{pointwise}
 use borrow.Author.Tests.{ne_eqb, eqb-true, eqb-false}
 use lib.Seq.{drop-cons}
@@ -32,6 +33,11 @@ text-other x y sum other e f d = ne_eqb sum other d ∙ texts-differ checksum x 
 -- a checksum among others
 abbrev pub has_sum : ℕ → List ℕ → Bool
 has_sum sum sums = list_any (λ other. eqb other sum) sums
+
+-- a test of every checksum, one after the other
+pub fold_any : (sum : ℕ) (found : Bool) (sums : List ℕ) → fold (λ g other. g || eqb other sum) found sums ≡ (found || has_sum sum sums)
+fold_any sum found [] = sym (or-false found)
+fold_any sum found (y ∷ ys) = fold_any sum (found || eqb y sum) ys ∙ or_assoc found (eqb y sum) (has_sum sum ys)
 
 -- a text whose checksum is among no others is not among their texts
 pub no_sum : (x : Text) (ts : List Text) → has_sum (checksum x) (map checksum ts) ≡ false → false ≡ among x ts

@@ -1,7 +1,7 @@
 // The values that every part of the tree file is made of.
 #![tactic(auto, unfolding(crate::specs::Answers::forget, tree::specs::Ans::bind, tree::specs::Ans::here, tree::specs::Ans::check, tree::specs::Ans::done, tree::specs::Ans::refuse, tree::specs::Read::within, tree::specs::Read::byte, tree::specs::Read::bytes, tree::specs::Read::number, tree::specs::Read::span, tree::specs::Read::case_byte, tree::specs::Read::count, tree::specs::Stmts::slice), using(crate::proofs::Steps::steps))]
 
-ghost use Rattle.std.specs.Prelude.{◌≡◌};
+ghost use Rattle.std.specs.Prelude.{◌≡◌, ◌<◌};
 ghost use Rattle.tree.specs.Read.{byte, bytes, u16, u64, span, case_byte, option, count};
 ghost use Rattle.tree.specs.Stmts.{slice};
 ghost use Rattle.reading.specs.Answers.{answer, forget};
@@ -54,11 +54,13 @@ pub fn read_count(s: &[u8], at: usize) -> Read<u8>
     a
 }
 
+// One comparison, and with a number that is the same for all places: it is worked out once.
 fn read_bytes<const N: usize>(s: &[u8], at: usize) -> Read<[u8; N]>
+    requires { 0 < N }
     ensures { answer result ≡ bytes N s.now at }
 {
-    if let Some(rest) = s.get(at..)
-        && let Some(first) = rest.first_chunk()
+    if at < s.len().saturating_sub(N - 1)
+        && let Some(first) = s[at..at + N].first_chunk()
     {
         return Read::At(*first, at + N);
     }

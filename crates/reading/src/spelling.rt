@@ -16,10 +16,11 @@ pub enum Spelling {
 // A checksum is below 2^48.
 const SUM_LIMIT: u64 = 1 << 48;
 
+// With `|`, here and for a name's bytes, nothing is chosen byte by byte: many are tested at once.
 fn is_letter(c: u8) -> bool
     ensures { result ≡ letter c }
 {
-    c.is_ascii_alphabetic() || c == b'_'
+    c.is_ascii_alphabetic() | (c == b'_')
 }
 
 // Whether every byte is allowed. Each is looked at, so that many are at once.
@@ -40,7 +41,7 @@ fn is_name(x: &[u8]) -> bool
     ensures { result ≡ is_name x.now }
 {
     match x {
-        [first, ..] => is_letter(*first) && all_of(x, |c| is_letter(c) || c.is_ascii_digit()),
+        [first, ..] => is_letter(*first) && all_of(x, |c| is_letter(c) | c.is_ascii_digit()),
         [] => false,
     }
 }

@@ -1,7 +1,8 @@
 // The texts of the file, and the numbers by which the tree names them.
 #![tactic(auto, unfolding(crate::specs::Answers::forget, crate::specs::Section::text_count, crate::specs::Section::of_kind, crate::specs::Section::kind_read, tree::specs::Texts::text, tree::specs::Texts::among, tree::specs::Read::byte, tree::specs::Read::bytes, tree::specs::Read::within, tree::specs::Exprs::text_number, tree::specs::Texts::is_path, tree::specs::Ans::bind, tree::specs::Ans::here, tree::specs::Ans::check, tree::specs::Ans::done, tree::specs::Ans::refuse), using(crate::proofs::Steps::steps, crate::proofs::Named::named))]
 
-ghost use Rattle.std.specs.Prelude.{◌≡◌, ◌≤◌, ◌<◌, ◌-◌, not, map, position, length, take, drop};
+ghost use Rattle.std.specs.Prelude.{◌≡◌, ◌≤◌, ◌<◌, ◌-◌, eqb, not, map, position, length, take, drop};
+ghost use Rattle.std.specs.List.{list_any};
 ghost use Rattle.text.specs.Text.{same};
 ghost use Rattle.tree.specs.Texts.{between, allowed, among, is_name, is_float, is_path, text_at, past};
 ghost use Rattle.tree.specs.Exprs.{text_number};
@@ -83,6 +84,14 @@ fn slot_of(sum: u64) -> usize
     (folded * SPREAD / FIRST_BITS) as usize % SLOTS
 }
 
+// Whether a checksum is among others. All are gone through, so that several are compared at once.
+fn has_sum(sums: &[u64], sum: u64) -> bool
+    ensures { result ≡ list_any (λ other. eqb other sum) sums.now }
+{
+    sums.iter()
+        .fold(false, |found, other| found | (*other == sum))
+}
+
 // Whether a text equals one of the first, whose checksums are lent.
 fn is_repeated(s: &[u8], x: &[u8], sum: u64, sums: &[u64]) -> bool
     requires sum_value { sum ≡ checksum x.now }
@@ -90,7 +99,7 @@ fn is_repeated(s: &[u8], x: &[u8], sum: u64, sums: &[u64]) -> bool
     requires sums_value { sums.now ≡ map checksum (texts_from s.now (length sums.now) 2) }
     ensures { result ≡ among x.now (texts_from s.now (length sums.now) 2) }
 {
-    if !sums.contains(&sum) {
+    if !has_sum(sums, sum) {
         return false;
     }
     let mut k = 2;

@@ -5,13 +5,15 @@ use mathlib.Core.List.{List, [], ◌∷◌}
 use mathlib.Core.Bool.{Bool, true, false, cond}
 use native.Mathlib.Omega.{arith}
 use native.Mathlib.Numerals.{add-one}
-use lib.ListN.{get_or, drop}
+use lib.ListN.{length, get_or, drop}
 use Rattle.sema.specs.Marks.{Key}
 use Rattle.sema.specs.Keys.{same_key, has_key}
-use Rattle.context.specs.View.{key_at, keys_in, place_in}
+use Rattle.context.specs.declared.Key.{Key as KeyValue}
+use Rattle.context.specs.Values.{key_of}
+use Rattle.context.specs.View.{keys_of, place_in}
 use Rattle.sheet.specs.Sheet.{first, Distinct}
 use Rattle.sheet.specs.Places.{by_test, key-eq, place_here, place-there, unplaced, first_some}
-use Rattle.sheet.proofs.Loops.{rest, rest_more, rest_end}
+use Rattle.sheet.proofs.Loops.{rest, nth, rest_more, rest_end}
 
 -- the place of one key
 module _ (b : Bool) (p before : ℕ) where
@@ -61,42 +63,43 @@ module _ (l : Key) (ls : List Key) (k : Key) where
       (λ e. rw (there e vs j, e))
 
 -- the first k keys were passed
-pub record Meeting (index : List ℕ) (count : ℕ) (sheet : List ℕ) (key : Key) (met k : ℕ) : Type 0 where
-  pub within : k ≤ count
-  pub distinct : Distinct (rest index count k)
-  pub same : place_in (keys_in index count) sheet key ≡ first (place_in (rest index count k) (drop k sheet) key) met
+pub record Meeting (keys : List KeyValue) (sheet : List ℕ) (key : Key) (met k : ℕ) : Type 0 where
+  pub within : k ≤ length keys
+  pub distinct : Distinct (rest keys k)
+  pub same : place_in (keys_of keys) sheet key ≡ first (place_in (rest keys k) (drop k sheet) key) met
 
-module _ (index : List ℕ) (count : ℕ) (sheet : List ℕ) (key : Key) where
-  module _ {before k : ℕ} (m : Meeting index count sheet key before k) where
-    meeting-more : (met : ℕ) → k < count → met ≡ first (cond (same_key (key_at index k) key) (get_or sheet k 0) 0) before → Meeting index count sheet key met (k + 1)
+module _ (keys : List KeyValue) (sheet : List ℕ) (key : Key) where
+  module _ {before k : ℕ} (m : Meeting keys sheet key before k) where
+    meeting-more : (met : ℕ) → k < length keys → met ≡ first (cond (same_key (key_of (nth keys k)) key) (get_or sheet k 0) 0) before → Meeting keys sheet key met (k + 1)
     unfolding Distinct
     meeting-more met h e =
-        let d : Distinct (key_at index k ∷ rest index count (k + 1)) = rw (rest_more index count k h) at m.distinct in
-        let s : place_in (keys_in index count) sheet key ≡ first (place_in (key_at index k ∷ rest index count (k + 1)) (drop k sheet) key) before =
-        rw (rest_more index count k h) at m.same in
+        let l = nth keys k in
+        let d : Distinct (key_of l ∷ rest keys (k + 1)) = rw (rest_more keys k h) at m.distinct in
+        let s : place_in (keys_of keys) sheet key ≡ first (place_in (key_of l ∷ rest keys (k + 1)) (drop k sheet) key) before =
+        rw (rest_more keys k h) at m.same in
         record {
           within = omega arith;
           distinct = d.1;
-          same = s ∙ rw (add-one k, e) (met_next (key_at index k) (rest index count (suc k)) key (rw (add-one k) at d.0) sheet k before);
+          same = s ∙ rw (add-one k, e) (met_next (key_of l) (rest keys (suc k)) key (rw (add-one k) at d.0) sheet k before);
         }
 
-    meeting-end : count ≤ k → before ≡ place_in (keys_in index count) sheet key
+    meeting-end : length keys ≤ k → before ≡ place_in (keys_of keys) sheet key
     unfolding place_in
-    meeting-end h = sym (m.same ∙ rw (rest_end index count k h))
+    meeting-end h = sym (m.same ∙ rw (rest_end keys k h))
 
 -- so of two keys
-pub record Looking (index : List ℕ) (count : ℕ) (sheet : List ℕ) (a b : Key) (own other k : ℕ) : Type 0 where
-  pub of_own : Meeting index count sheet a own k
-  pub of_other : Meeting index count sheet b other k
+pub record Looking (keys : List KeyValue) (sheet : List ℕ) (a b : Key) (own other k : ℕ) : Type 0 where
+  pub of_own : Meeting keys sheet a own k
+  pub of_other : Meeting keys sheet b other k
 
-module _ (index : List ℕ) (count : ℕ) (sheet : List ℕ) (a b : Key) where
-  module _ {own other k : ℕ} (l : Looking index count sheet a b own other k) where
-    pub looking-more : (own' other' : ℕ) → k < count → own' ≡ first (cond (same_key (key_at index k) a) (get_or sheet k 0) 0) own
-        → other' ≡ first (cond (same_key (key_at index k) b) (get_or sheet k 0) 0) other → Looking index count sheet a b own' other' (k + 1)
+module _ (keys : List KeyValue) (sheet : List ℕ) (a b : Key) where
+  module _ {own other k : ℕ} (l : Looking keys sheet a b own other k) where
+    pub looking-more : (own' other' : ℕ) → k < length keys → own' ≡ first (cond (same_key (key_of (nth keys k)) a) (get_or sheet k 0) 0) own
+        → other' ≡ first (cond (same_key (key_of (nth keys k)) b) (get_or sheet k 0) 0) other → Looking keys sheet a b own' other' (k + 1)
     looking-more own' other' h e f =
-        record { of_own = meeting-more index count sheet a l.of_own own' h e; of_other = meeting-more index count sheet b l.of_other other' h f }
+        record { of_own = meeting-more keys sheet a l.of_own own' h e; of_other = meeting-more keys sheet b l.of_other other' h f }
 
-    pub looking-end : (r : ℕ) → count ≤ k → r ≡ first own other → r ≡ first (place_in (keys_in index count) sheet a) (place_in (keys_in index count) sheet b)
-    looking-end r h e = rw (← meeting-end index count sheet a l.of_own h, ← meeting-end index count sheet b l.of_other h) e
+    pub looking-end : (r : ℕ) → length keys ≤ k → r ≡ first own other → r ≡ first (place_in (keys_of keys) sheet a) (place_in (keys_of keys) sheet b)
+    looking-end r h e = rw (← meeting-end keys sheet a l.of_own h, ← meeting-end keys sheet b l.of_other h) e
 
 pub ruleset looking = (looking-more, looking-end)

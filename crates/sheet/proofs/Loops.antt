@@ -6,74 +6,32 @@ use mathlib.Core.Option.{Option, none, some}
 use mathlib.Core.Bool.{Bool, true, false, cond, ◌&&◌}
 use native.Mathlib.Omega.{arith}
 use native.Mathlib.Numerals.{add-one}
-use lib.ListN.{get_or, drop}
+use lib.ListN.{length, get_or, drop}
 use lib.Dec.{eqb}
 use borrow.Author.Tests.{eq-eqb, ne_eqb}
 use Rattle.sema.specs.Marks.{Key, in_slice}
-use Rattle.sema.specs.Keys.{same_key}
-use Rattle.context.specs.View.{key_at, keys_from, keys_in}
-use Rattle.std.specs.Prelude.{Option as Maybe, Some, None, MatchOption}
-use Rattle.sheet.specs.Sheet.{position, FoundAt, offer, least_in}
+use Rattle.context.specs.declared.Key.{Key as KeyValue}
+use Rattle.context.specs.Values.{number_of, key_of}
+use Rattle.context.specs.View.{keys_of}
+use Rattle.std.proofs.Common.{drop_of_length-le}
+use lib.Seq.{drop-cons}
+use Rattle.std.specs.Prelude.{Option as Maybe, None}
+use Rattle.sheet.specs.Sheet.{offer, least_in}
 
 -- the keys from number k on
-abbrev pub rest : List ℕ → ℕ → ℕ → List Key
-rest index count k = keys_from index k (count - k)
+abbrev pub rest : List KeyValue → ℕ → List Key
+rest keys k = keys_of (drop k keys)
 
-pub rest_more : (index : List ℕ) (count k : ℕ) → k < count → rest index count k ≡ key_at index k ∷ rest index count (k + 1)
-unfolding keys_from
-rest_more index count k h =
-    let e : count - k ≡ suc (count - (k + 1)) = omega arith in
-    rw (e, add-one k)
+-- the key with a number
+abbrev pub nth : List KeyValue → ℕ → KeyValue
+nth keys k = get_or keys k (record { name = 0; index = None })
 
-pub rest_end : (index : List ℕ) (count k : ℕ) → count ≤ k → rest index count k ≡ []
-unfolding keys_from
-rest_end index count k h = let e : count - k ≡ 0 = omega arith in rw e
+module _ (keys : List KeyValue) (k : ℕ) where
+  pub rest_more : k < length keys → rest keys k ≡ key_of (nth keys k) ∷ rest keys (k + 1)
+  rest_more h = rw (add-one k, drop-cons keys k (record { name = 0; index = None }) h) refl
 
-pub rest_all : (index : List ℕ) (count : ℕ) → rest index count 0 ≡ keys_in index count
-rest_all index count = let e : count - 0 ≡ count = omega arith in rw e
-
--- the first k keys are not the one sought
-pub record Seeking (index : List ℕ) (count : ℕ) (key : Key) (k : ℕ) : Type 0 where
-  pub within : k ≤ count
-  pub same : position (keys_in index count) key ≡ k + position (rest index count k) key
-
-pub seeking-start : (index : List ℕ) (count : ℕ) (key : Key) → Seeking index count key 0
-seeking-start index count key = record { within = omega arith; same = rw (rest_all index count) (omega arith) }
-
-module _ {index : List ℕ} {count : ℕ} {key : Key} {k : ℕ} (s : Seeking index count key k) where
-  module _ (r : Bool) (h : k < count) (e : r ≡ same_key (key_at index k) key) where
-    pub seeking-found : r ≡ true → k ≡ position (keys_in index count) key
-    unfolding position
-    seeking-found f =
-        let p : position (rest index count k) key ≡ 0 = rw (rest_more index count k h, sym e ∙ f, position) in
-        omega (arith, s.same, p)
-
-    pub seeking-more : r ≡ false → Seeking index count key (k + 1)
-    unfolding position
-    seeking-more f =
-        let p : position (rest index count k) key ≡ suc (position (rest index count (k + 1)) key) =
-        rw (rest_more index count k h, sym e ∙ f, position) in
-        record { within = omega arith; same = omega (arith, s.same, p) }
-
-  pub seeking-end : count ≤ k → k ≡ position (keys_in index count) key
-  unfolding position
-  seeking-end h =
-      let p : position (rest index count k) key ≡ 0 = rw (rest_end index count k h) in
-      omega (arith, s.same, p)
-
--- where `find` over the numbers of the keys gives r
-module _ (index : List ℕ) (count : ℕ) (key : Key) where
-  abbrev pub Is : Bool → ℕ → Type 0
-  Is b k = same_key (key_at index k) key ≡ b
-
-  seeking-to : (k : ℕ) → k ≤ count → ((j : ℕ) → j < k → Is false j) → Seeking index count key k
-  seeking-to zero h f = seeking-start index count key
-  seeking-to (suc k) h f = rw (← add-one k) (seeking-more (seeking-to k (omega arith) (λ j l. f j (omega arith))) false (omega arith) (sym (f k (omega arith))) refl)
-
-  pub found_at : (r : Maybe ℕ) → MatchOption r ((k : ℕ) → 0 ≤ k → k < count → Is false k) (λ i. (0 ≤ i) × (i < count) × Is true i × ((k : ℕ) → 0 ≤ k → k < i → Is false k))
-      → FoundAt r count (position (keys_in index count) key)
-  found_at None h = seeking-end (seeking-to count (omega arith) (λ j l. h j (omega arith) l)) (omega arith)
-  found_at (Some i) h = (h.1, seeking-found (seeking-to i (omega (arith, h.1)) (λ j l. h.3 j (omega arith) l)) true h.1 (sym h.2) refl)
+  pub rest_end : length keys ≤ k → rest keys k ≡ []
+  rest_end h = rw (drop_of_length-le keys h)
 
 -- a key with no place is not offered
 unmarked : (b : Bool) (o : Option ℕ) (c : Maybe (ℕ × ℕ)) → c ≡ cond b (offer o 0 c) c
@@ -100,36 +58,36 @@ module _ (x : ℕ) (r : ℕ × ℕ) (l : Key) (ls : List Key) where
   least_more (v ∷ vs) (suc j) = least_more vs j
 
 -- the keys from number k on are compared
-pub record Comparing (index : List ℕ) (count x a b : ℕ) (sheet : List ℕ) (best : Maybe (ℕ × ℕ)) (k : ℕ) : Type 0 where
-  pub within : k ≤ count
-  pub same : best ≡ least_in x (a, b) (rest index count k) (drop k sheet)
+pub record Comparing (keys : List KeyValue) (x a b : ℕ) (sheet : List ℕ) (best : Maybe (ℕ × ℕ)) (k : ℕ) : Type 0 where
+  pub within : k ≤ length keys
+  pub same : best ≡ least_in x (a, b) (rest keys k) (drop k sheet)
 
-pub comparing-start : (index : List ℕ) (count x a b : ℕ) (sheet : List ℕ) → Comparing index count x a b sheet None count
+pub comparing-start : (keys : List KeyValue) (x a b : ℕ) (sheet : List ℕ) → Comparing keys x a b sheet None (length keys)
 unfolding least_in
-comparing-start index count x a b sheet = record { within = omega arith; same = rw (rest_end index count count (omega arith)) }
+comparing-start keys x a b sheet = record { within = omega arith; same = rw (rest_end keys (length keys) (omega arith)) }
 
-module _ {index : List ℕ} {count x a b : ℕ} {sheet : List ℕ} {best : Maybe (ℕ × ℕ)} {k : ℕ} (c : Comparing index count x a b sheet best k) where
-  comparing-more : (j : ℕ) (r : Maybe (ℕ × ℕ)) → 0 < k → j ≡ k - 1
-      → r ≡ cond (eqb (key_at index j).name x && in_slice (a, b) (key_at index j).index) (offer (key_at index j).index (get_or sheet j 0) best) best
-      → Comparing index count x a b sheet r j
-  comparing-more j r h e f =
+module _ {keys : List KeyValue} {x a b : ℕ} {sheet : List ℕ} {best : Maybe (ℕ × ℕ)} {k : ℕ} (c : Comparing keys x a b sheet best k) (j : ℕ) (h : 0 < k) (e : j ≡ k - 1) where
+  abbrev l : KeyValue
+  l = nth keys j
+
+  comparing-more : (r : Maybe (ℕ × ℕ)) → r ≡ cond (eqb l.name x && in_slice (a, b) (number_of l.index)) (offer (number_of l.index) (get_or sheet j 0) best) best → Comparing keys x a b sheet r j
+  comparing-more r f =
       let g : k ≡ suc j = omega arith in
-      let u : j < count = omega (arith, c.within) in
-      let w : best ≡ least_in x (a, b) (rest index count (suc j)) (drop (suc j) sheet) = rw g at c.same in
+      let u : j < length keys = omega (arith, c.within) in
+      let w : best ≡ least_in x (a, b) (rest keys (suc j)) (drop (suc j) sheet) = rw g at c.same in
       record {
         within = omega arith;
-        same = f ∙ rw (w, rest_more index count j u, add-one j) (sym (least_more x (a, b) (key_at index j) (rest index count (suc j)) sheet j));
+        same = f ∙ rw (w, rest_more keys j u, add-one j) (sym (least_more x (a, b) (key_of l) (rest keys (suc j)) sheet j));
       }
 
-  module _ (j : ℕ) (l : Key) (h : 0 < k) (e : j ≡ k - 1) (i : l ≡ key_at index j) where
-    pub comparing-name : (r : Maybe (ℕ × ℕ)) → l.name ≡ x → r ≡ cond (in_slice (a, b) l.index) (offer l.index (get_or sheet j 0) best) best → Comparing index count x a b sheet r j
-    comparing-name r n f = comparing-more j r h e (rw (← i, eq-eqb l.name x n) f)
+  pub comparing-name : (r : Maybe (ℕ × ℕ)) → l.name ≡ x → r ≡ cond (in_slice (a, b) (number_of l.index)) (offer (number_of l.index) (get_or sheet j 0) best) best → Comparing keys x a b sheet r j
+  comparing-name r n f = comparing-more r (rw (eq-eqb l.name x n) f)
 
-    pub comparing-other : (l.name ≡ x → ⊥) → Comparing index count x a b sheet best j
-    comparing-other n = comparing-more j best h e (rw (← i, ne_eqb l.name x n))
+  pub comparing-other : (l.name ≡ x → ⊥) → Comparing keys x a b sheet best j
+  comparing-other n = comparing-more best (rw (ne_eqb l.name x n))
 
-    pub comparing-unmarked : get_or sheet j 0 ≡ 0 → Comparing index count x a b sheet best j
-    comparing-unmarked f =
-        comparing-more j best h e (rw f (unmarked (eqb (key_at index j).name x && in_slice (a, b) (key_at index j).index) (key_at index j).index best))
+  pub comparing-unmarked : get_or sheet j 0 ≡ 0 → Comparing keys x a b sheet best j
+  comparing-unmarked f =
+      comparing-more best (rw f (unmarked (eqb l.name x && in_slice (a, b) (number_of l.index)) (number_of l.index) best))
 
 pub ruleset comparing = (comparing-start, comparing-name, comparing-other, comparing-unmarked)

@@ -11,14 +11,16 @@ use lib.Seq.{drop-cons, take-suc-set, drop-set-lt, set-get_or, drop-length, take
 use Rattle.span.specs.declared.Span.{Span}
 use Rattle.ast.specs.Tree.{GateOperand}
 use Rattle.sema.specs.Marks.{Key, apply, clear_measured, unite}
-use Rattle.context.specs.View.{key_at, keys_in, marks_of, measure_span, PlaceOk, Placed}
+use Rattle.context.specs.declared.Key.{Key as KeyValue}
+use Rattle.context.specs.Values.{key_of}
+use Rattle.std.proofs.lemmas.List.{length-map}
+use Rattle.context.specs.View.{keys_of, marks_of, measure_span, PlaceOk, Placed}
 use Rattle.sheet.specs.Sheet.{first, stored, united, measuring, Covers}
 use Rattle.sheet.specs.Effects.{marks-set, marks-clear, marks-united}
-use Rattle.sheet.specs.Table.{length-keys}
 use Rattle.sheet.specs.Kept.{stored-placed, united-placed}
 use Rattle.sheet.specs.Behind.{Blank, stored-behind, united-behind}
 use Rattle.sheet.proofs.Tests.{set_by, cleared_by}
-use Rattle.sheet.proofs.Loops.{rest, rest_more, rest_end}
+use Rattle.sheet.proofs.Loops.{rest, nth, rest_more, rest_end}
 
 -- a store at i of what is next
 module _ (r : List ℕ) (i v : ℕ) (h : i < length r) where
@@ -32,17 +34,20 @@ module _ (r : List ℕ) (i v : ℕ) (h : i < length r) where
   from-here = rw (add-one i) (drop-cons r i 0 h)
 
 -- the first k keys have their places
-pub record Storing (t : Key → Bool) (p : ℕ) (index : List ℕ) (count : ℕ) (sheet r : List ℕ) (k : ℕ) : Type 0 where
-  pub within : k ≤ count
-  pub few : count ≤ 256
+pub record Storing (t : Key → Bool) (p : ℕ) (keys : List KeyValue) (sheet r : List ℕ) (k : ℕ) : Type 0 where
+  pub within : k ≤ length keys
+  pub few : length keys ≤ 256
   pub size : length r ≡ 256
-  pub same : stored t p (keys_in index count) sheet ≡ take k r ++ stored t p (rest index count k) (drop k r)
+  pub same : stored t p (keys_of keys) sheet ≡ take k r ++ stored t p (rest keys k) (drop k r)
 
-module _ {t : Key → Bool} {p : ℕ} {index : List ℕ} {count : ℕ} {sheet r : List ℕ} {k : ℕ} (s : Storing t p index count sheet r k) where
-  storing-more : k < count → Storing t p index count sheet (set r k (cond (t (key_at index k)) p (get_or r k 0))) (k + 1)
+module _ {t : Key → Bool} {p : ℕ} {keys : List KeyValue} {sheet r : List ℕ} {k : ℕ} (s : Storing t p keys sheet r k) (h : k < length keys) where
+  abbrev l : KeyValue
+  l = nth keys k
+
+  storing-more : Storing t p keys sheet (set r k (cond (t (key_of l)) p (get_or r k 0))) (k + 1)
   unfolding stored
-  storing-more h =
-      let v = cond (t (key_at index k)) p (get_or r k 0) in
+  storing-more =
+      let v = cond (t (key_of l)) p (get_or r k 0) in
       let u : k < length r = omega (arith, s.few, s.size) in
       record {
         within = omega arith;
@@ -50,35 +55,35 @@ module _ {t : Key → Bool} {p : ℕ} {index : List ℕ} {count : ℕ} {sheet r 
         size = length-set r k v ∙ s.size;
         same =
             s.same
-            ∙ rw (rest_more index count k h, from-here r k 0 u, left_alone r k v u)
-            (one_more r k v u (stored t p (rest index count (k + 1)) (drop (k + 1) r)));
+            ∙ rw (rest_more keys k h, from-here r k 0 u, left_alone r k v u)
+            (one_more r k v u (stored t p (rest keys (k + 1)) (drop (k + 1) r)));
       }
 
-  module _ {r' : List ℕ} {b : Bool} (h : k < count) (e : b ≡ t (key_at index k)) where
-    pub storing-then : b ≡ true → r' ≡ set r k p → Storing t p index count sheet r' (k + 1)
-    storing-then f g = rw g (rw (← e, f) at (storing-more h))
+  module _ {r' : List ℕ} {b : Bool} (e : b ≡ t (key_of l)) where
+    pub storing-then : b ≡ true → r' ≡ set r k p → Storing t p keys sheet r' (k + 1)
+    storing-then f g = rw g (rw (← e, f) at storing-more)
 
-    pub storing_else : b ≡ false → r' ≡ r → Storing t p index count sheet r' (k + 1)
-    storing_else f g = rw g (rw (← e, f, set-get_or r k 0) at (storing-more h))
+    pub storing_else : b ≡ false → r' ≡ r → Storing t p keys sheet r' (k + 1)
+    storing_else f g = rw g (rw (← e, f, set-get_or r k 0) at storing-more)
 
-  pub storing-end : count ≤ k → r ≡ stored t p (keys_in index count) sheet
-  unfolding stored
-  storing-end h = sym (s.same ∙ rw (rest_end index count k h) (take-append-drop k r))
+pub storing-end : {t : Key → Bool} {p : ℕ} {keys : List KeyValue} {sheet r : List ℕ} {k : ℕ} → Storing t p keys sheet r k → length keys ≤ k → r ≡ stored t p (keys_of keys) sheet
+unfolding stored
+storing-end {keys = keys} {r = r} {k = k} s h = sym (s.same ∙ rw (rest_end keys k h) (take-append-drop k r))
 
-module _ (index : List ℕ) (count : ℕ) (sheet : List ℕ) (op : GateOperand) (r : List ℕ) (f : count ≤ 256) (l : length sheet ≡ 256) where
-  fits : length (keys_in index count) ≤ length sheet
-  fits = omega (arith, length-keys index 0 count)
+module _ (keys : List KeyValue) (sheet : List ℕ) (op : GateOperand) (r : List ℕ) (f : length keys ≤ 256) (l : length sheet ≡ 256) where
+  fits : length (keys_of keys) ≤ length sheet
+  fits = omega (arith, length-map keys key_of)
 
-  pub set-marks : (size : Option ℕ) (p : ℕ) → 0 < p → Covers (keys_in index count) (measuring size op) → r ≡ stored (set_by size op) p (keys_in index count) sheet
-      → (tree : List ℕ) → marks_of tree (keys_in index count) r ≡ apply (measuring size op) (measure_span tree p) (marks_of tree (keys_in index count) sheet)
+  pub set-marks : (size : Option ℕ) (p : ℕ) → 0 < p → Covers (keys_of keys) (measuring size op) → r ≡ stored (set_by size op) p (keys_of keys) sheet
+      → (tree : List ℕ) → marks_of tree (keys_of keys) r ≡ apply (measuring size op) (measure_span tree p) (marks_of tree (keys_of keys) sheet)
   unfolding measuring
   set-marks size zero h c e tree = absurd (omega arith)
-  set-marks size (suc q) h c e tree = rw e (marks-set tree (set_by size op) (keys_in index count) sheet fits q c)
+  set-marks size (suc q) h c e tree = rw e (marks-set tree (set_by size op) (keys_of keys) sheet fits q c)
 
-  pub clear-marks : r ≡ stored (cleared_by op) 0 (keys_in index count) sheet
-      → (tree : List ℕ) (sp : Span) → marks_of tree (keys_in index count) r ≡ apply (clear_measured op) sp (marks_of tree (keys_in index count) sheet)
+  pub clear-marks : r ≡ stored (cleared_by op) 0 (keys_of keys) sheet
+      → (tree : List ℕ) (sp : Span) → marks_of tree (keys_of keys) r ≡ apply (clear_measured op) sp (marks_of tree (keys_of keys) sheet)
   unfolding clear_measured
-  clear-marks e tree sp = rw e (marks-clear tree (cleared_by op) (keys_in index count) sheet fits sp)
+  clear-marks e tree sp = rw e (marks-clear tree (cleared_by op) (keys_of keys) sheet fits sp)
 
 -- the places of a store
 module _ (ks : List Key) (sheet r : List ℕ) (t : Key → Bool) where
@@ -89,10 +94,10 @@ module _ (ks : List Key) (sheet r : List ℕ) (t : Key → Bool) where
   clear-placed e tree g = store-placed 0 e tree tt g
 
 -- behind the keys nothing is stored
-pub store-behind : (index : List ℕ) (count : ℕ) (sheet r : List ℕ) (t : Key → Bool) (p : ℕ) → r ≡ stored t p (keys_in index count) sheet
-    → (n : ℕ) → count ≤ n → Blank n sheet → Blank n r
-store-behind index count sheet r t p e n l h =
-    rw e (stored-behind t p (keys_in index count) sheet n (omega (arith, length-keys index 0 count)) h)
+pub store-behind : (keys : List KeyValue) (sheet r : List ℕ) (t : Key → Bool) (p : ℕ) → r ≡ stored t p (keys_of keys) sheet
+    → (n : ℕ) → length keys ≤ n → Blank n sheet → Blank n r
+store-behind keys sheet r t p e n l h =
+    rw e (stored-behind t p (keys_of keys) sheet n (omega (arith, length-map keys key_of)) h)
 
 -- the first i places are united
 pub record Uniting (a b r : List ℕ) (i : ℕ) : Type 0 where

@@ -1,30 +1,14 @@
 -- The keys that the code holds. Assumes nothing.
-use Rattle.std.proofs.Common.{ℕ, ◌+◌, ◌*◌, ◌/◌, ◌%◌, ◌≡◌, refl, sym, ◌∙◌, arith, ◌&&◌, eqb}
+use Rattle.std.proofs.Common.{ℕ, ◌≡◌, refl, ◌∙◌, ◌&&◌, eqb}
 use Rattle.std.specs.Prelude.{Bool, true, Option as Maybe, Some, None}
-use Rattle.std.specs.Bool.{then_some}
 use Rattle.std.specs.Option.{option_eq}
-use Rattle.sema.specs.Marks.{Key, key, measures, resets, below_size}
+use Rattle.sema.specs.Marks.{Key, measures, resets, below_size}
 use Rattle.sema.specs.Keys.{same_index, same_key}
-use Rattle.context.specs.Values.{number_of}
-use Rattle.context.specs.View.{key_by}
+use Rattle.context.specs.Values.{number_of, key_of}
 use Rattle.ast.specs.Tree.{GateOperand}
 use Rattle.std.proofs.Math.Option.{Option, none, some}
-use Rattle.sheet.specs.declared.keys.IndexKey.{IndexKey}
-use Rattle.sheet.specs.Sheet.{key_of, reached}
-use Rattle.sheet.specs.Heads.{even-key, odd-key, by_parity, whole-key, index_key}
-
--- a key by its two numbers
-pub key-decoded : (h i : ℕ) (o : Maybe ℕ) → o ≡ then_some (eqb (h % 2) 1) i → key_of (record { name = h / 2; index = o }) ≡ key_by h i
-key-decoded h i o e =
-    by_parity h
-    (λ z. rw (e, z) (sym (even-key h i z)))
-    (λ f. let one : h % 2 ≡ 1 = omega arith in rw (e, one) (sym (odd-key h i f)))
-
-pub key-some : (x i : ℕ) (o : Maybe ℕ) → o ≡ Some i → key_by (2 * x + 1) i ≡ key x (number_of o)
-key-some x i o e = rw e (index_key x i)
-
-pub key-none : (x : ℕ) (o : Maybe ℕ) → o ≡ None → key_by (2 * x) 0 ≡ key x (number_of o)
-key-none x o e = rw e (whole-key x 0)
+use Rattle.context.specs.declared.Key.{Key as KeyValue}
+use Rattle.sheet.specs.Sheet.{same, reached}
 
 -- equal keys
 same-index : (i j : Maybe ℕ) → option_eq eqb i j ≡ same_index (number_of i) (number_of j)
@@ -34,9 +18,12 @@ same-index None (Some j) = refl
 same-index (Some i) None = refl
 same-index (Some i) (Some j) = refl
 
-pub same-decoded : (a b : IndexKey) (k : Key) (r : Bool) → r ≡ (eqb a.name b.name && option_eq eqb a.index b.index) → key_of a ≡ k → r ≡ same_key k (key_of b)
+pub same_is : (a b : KeyValue) → same a b ≡ same_key (key_of a) (key_of b)
 unfolding same_key
-same-decoded a b k r e f = e ∙ rw (← f, same-index a.index b.index)
+same_is a b = rw (same-index a.index b.index)
+
+pub same-decoded : (a b : KeyValue) (r : Bool) → r ≡ same a b → r ≡ same_key (key_of a) (key_of b)
+same-decoded a b r e = e ∙ same_is a b
 
 -- the keys that a measure of an operand sets, and those that a reset clears
 abbrev pub set_by : Option ℕ → GateOperand → Key → Bool
@@ -62,6 +49,3 @@ reached-set size op k r e = e ∙ rw (reached-measures size op.slice op.index k.
 
 pub reached-cleared : (op : GateOperand) (k : Key) (r : Bool) → r ≡ (eqb k.name op.name && reached op.slice op.index k.index true) → r ≡ cleared_by op k
 reached-cleared op k r e = e ∙ rw (reached-resets op.slice op.index k.index)
-
-pub same-told : (a b : IndexKey) (k : Key) (r : Bool) → r ≡ (eqb a.name b.name && option_eq eqb a.index b.index) → key_of a ≡ k → same_key k (key_of b) ≡ r
-same-told a b k r e f = sym (same-decoded a b k r e f)

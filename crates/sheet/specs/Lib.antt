@@ -1,5 +1,4 @@
 pub mod Sheet
-pub mod Heads
 pub mod Places
 pub mod Effects
 pub mod Table

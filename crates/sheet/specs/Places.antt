@@ -1,5 +1,5 @@
 -- Laws of the places of keys. Assumes nothing.
-use Rattle.std.specs.Prelude.{ℕ, zero, suc, ◌≤◌, ◌<◌, ◌≡◌, refl, List, [], ◌∷◌, Bool, true, false, length, eqb}
+use Rattle.std.specs.Prelude.{ℕ, zero, suc, ◌<◌, ◌≡◌, refl, List, [], ◌∷◌, Bool, true, false, eqb}
 use Rattle.std.proofs.Common.{sym, ap, ◌∙◌, arith, eqb-true, eq-eqb}
 use Rattle.std.proofs.Math.Option.{Option, none, some}
 use Rattle.std.proofs.Math.Bool.{and-eq-true_iff}
@@ -9,7 +9,7 @@ use Rattle.sema.specs.Symbols.{or_else}
 use Rattle.sema.specs.Marks.{Key, key, lookup_measured}
 use Rattle.sema.specs.Keys.{same_index, same_key, has_key}
 use Rattle.context.specs.View.{place_in, mark_by, marks_of}
-use Rattle.sheet.specs.Sheet.{position, first, lookup_in}
+use Rattle.sheet.specs.Sheet.{first, lookup_in}
 
 -- a test is true or false
 pub by_test : {A : Type 0} (b : Bool) → (b ≡ true → A) → (b ≡ false → A) → A
@@ -49,14 +49,6 @@ module _ (l : Key) (ls : List Key) (k : Key) where
   unfolding has_key
   has_there e = rw e
 
-  position_here : same_key l k ≡ true → position (l ∷ ls) k ≡ 0
-  unfolding position
-  position_here e = rw (e, position)
-
-  position-there : same_key l k ≡ false → position (l ∷ ls) k ≡ suc (position ls k)
-  unfolding position
-  position-there e = rw (e, position)
-
   module _ (v : ℕ) (vs : List ℕ) where
     pub place_here : same_key l k ≡ true → place_in (l ∷ ls) (v ∷ vs) k ≡ v
     unfolding place_in
@@ -75,22 +67,6 @@ unplaced (l ∷ ls) (v ∷ vs) k h =
     by_test (same_key l k)
     (λ e. absurd (false≢true (sym h ∙ has_here l ls k e)))
     (λ e. place-there l ls k v vs e ∙ unplaced ls vs k (sym (has_there l ls k e) ∙ h))
-
--- the number of the first key that is k says whether it is there
-pub position-has : (ks : List Key) (k : Key) → position ks k < length ks → has_key ks k ≡ true
-position-has [] k h = absurd (omega arith)
-position-has (l ∷ ls) k h =
-    by_test (same_key l k)
-    (λ e. has_here l ls k e)
-    (λ e. has_there l ls k e ∙ position-has ls k (omega (arith, position-there l ls k e)))
-
-pub position-none : (ks : List Key) (k : Key) → length ks ≤ position ks k → has_key ks k ≡ false
-unfolding has_key
-position-none [] k h = refl
-position-none (l ∷ ls) k h =
-    by_test (same_key l k)
-    (λ e. absurd (omega (arith, position_here l ls k e)))
-    (λ e. has_there l ls k e ∙ position-none ls k (omega (arith, position-there l ls k e)))
 
 pub first-zero : (a b : ℕ) → a ≡ 0 → first a b ≡ b
 first-zero a b e = rw e

@@ -5,30 +5,20 @@ use Rattle.span.specs.declared.Span.{Span}
 use Rattle.ast.specs.Tree.{TextNumber, GateOperand}
 use Rattle.sema.specs.Limits.{key_limit}
 use Rattle.sema.specs.Marks.{Key, key, Effect, set, keep, in_slice, is_index, measures}
-use Rattle.sema.specs.Keys.{same_key, has_key}
+use Rattle.sema.specs.Keys.{has_key}
 use Rattle.context.specs.View.{place_in, keys_in, measure_span}
-use Rattle.context.specs.Values.{number_of}
 use Rattle.std.specs.Prelude.{Option as Maybe, Some, None}
-use Rattle.sheet.specs.declared.keys.IndexKey.{IndexKey as KeyValue}
+use Rattle.context.specs.declared.Key.{Key as KeyValue}
+use Rattle.std.specs.Option.{option_eq}
 
 -- an index with room for all keys, and so many keys in it
-pub record Indexed (index : List ℕ) (count : ℕ) : Type 0 where
-  pub size : length index ≡ 512
+pub record Indexed (index : List KeyValue) (count : ℕ) : Type 0 where
+  pub size : length index ≡ 256
   pub few : count ≤ key_limit
 
--- the key that the code holds
-abbrev pub key_of : KeyValue → Key
-key_of k = record { name = k.name; index = number_of k.index }
-
--- the number of the first key that is k, or how many keys there are
-unfoldable pub position : List Key → Key → ℕ
-position [] k = 0
-position (l ∷ ls) k = elim (same_key l k) [ true ↦ 0 | false ↦ suc (position ls k) ]
-
--- so it is found, or not
-abbrev pub FoundAt : Maybe ℕ → ℕ → ℕ → Type 0
-FoundAt (Some k) count n = (k < count) × (k ≡ n)
-FoundAt None count n = count ≡ n
+-- keys of the code are equal
+abbrev pub same : KeyValue → KeyValue → Bool
+same a b = eqb a.name b.name && option_eq eqb a.index b.index
 
 -- a place, or another where it is none
 abbrev pub first : ℕ → ℕ → ℕ
@@ -107,6 +97,6 @@ united (a ∷ r) [] = a ∷ r
 united (a ∷ r) (b ∷ bs) = first a b ∷ united r bs
 
 -- the index where its keys are to be ks, and how many there are: none where they are too many
-abbrev pub Grown : List ℕ → Maybe ℕ → List Key → Type 0
+abbrev pub Grown : List KeyValue → Maybe ℕ → List Key → Type 0
 Grown after (Some count) ks = (keys_in after count ≡ ks) × (count ≤ key_limit)
 Grown after None ks = key_limit < length ks

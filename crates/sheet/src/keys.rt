@@ -1,70 +1,38 @@
-// The keys of the index.
-ghost use Rattle.std.specs.Prelude.{◌≡◌, ◌*◌, ◌<◌, length};
-ghost use Rattle.sema.specs.Marks.{key, in_slice, below_size};
-ghost use Rattle.context.specs.Values.{number_of};
-ghost use Rattle.context.specs.View.{key_by, key_at};
-ghost use Rattle.sheet.specs.Sheet.{key_of};
+// What an operand says of keys.
+ghost use Rattle.std.specs.Prelude.{◌≡◌};
+ghost use Rattle.sema.specs.Marks.{in_slice, below_size};
+ghost use Rattle.context.specs.Values.{number_of, ends_of};
+ghost use Rattle.sheet.specs.Sheet.{reached};
 
-// How many keys there may be.
-pub(crate) const KEYS: usize = 256;
+use context::{GateOperand, Key};
 
-// A name, or a name with an index.
-#[derive(Clone, Copy, PartialEq)]
-pub(crate) struct IndexKey {
-    pub(crate) name: usize,
-    pub(crate) index: Option<u64>,
+// The key has an index of the slice.
+#[tactic(auto, unfolding(sema::specs::Marks::in_slice))]
+fn is_within(key: Key, a: u64, b: u64) -> bool
+    ensures { result ≡ in_slice (a, b) (number_of key.index) }
+{
+    matches!(key.index, Some(i) if a <= i && i <= b)
 }
 
-impl IndexKey {
-    pub(crate) fn new(name: usize, index: Option<u64>) -> IndexKey
-        ensures { (key_of result ≡ key name (number_of index)) × (result.name ≡ name) }
-    {
-        IndexKey { name, index }
+// It is a name alone, or an index below the size.
+#[tactic(auto, unfolding(sema::specs::Marks::below_size))]
+pub(crate) fn is_below(key: Key, size: Option<u64>) -> bool
+    ensures { result ≡ below_size (number_of size) (number_of key.index) }
+{
+    match key.index {
+        Some(i) => size.is_some_and(|n| i < n),
+        None => true,
     }
+}
 
-    // Number k of the index: twice the name, and 1 more if it has an index; the index.
-    pub(crate) fn at(index: &[u64], k: usize) -> IndexKey
-        requires { (length index.now ≡ 512) × (k < 256) }
-        ensures { key_of result ≡ key_at index.now k }
-    {
-        let head = index[2 * k];
-        let i = index[2 * k + 1];
-        IndexKey {
-            // The number of a text: TryFrom would add an error that no text gives.
-            name: (head / 2) as usize,
-            index: (head % 2 == 1).then_some(i),
-        }
-    }
-
-    // Its two numbers.
-    pub(crate) fn numbers(self) -> (u64, u64)
-        requires { self.name < 256 }
-        ensures { key_by result.0 result.1 ≡ key_of self }
-    {
-        // std has no From<usize> for u64.
-        let head = 2 * self.name as u64;
-        match self.index {
-            Some(i) => (head + 1, i),
-            None => (head, 0),
-        }
-    }
-
-    // It has an index of the slice.
-    #[tactic(auto, unfolding(sema::specs::Marks::in_slice))]
-    pub(crate) fn is_within(self, a: u64, b: u64) -> bool
-        ensures { result ≡ in_slice (a, b) (number_of self.index) }
-    {
-        matches!(self.index, Some(i) if a <= i && i <= b)
-    }
-
-    // It is a name alone, or an index below the size.
-    #[tactic(auto, unfolding(sema::specs::Marks::below_size))]
-    pub(crate) fn is_below(self, size: Option<u64>) -> bool
-        ensures { result ≡ below_size (number_of size) (number_of self.index) }
-    {
-        match self.index {
-            Some(i) => size.is_some_and(|n| i < n),
-            None => true,
-        }
+// Of the keys of its name an operand reaches its index, or those of its slice; where it is a name alone, `whole` says so.
+#[tactic(auto, unfolding(crate::specs::Sheet::reached, sema::specs::Marks::is_index))]
+pub(crate) fn is_reached(op: GateOperand, key: Key, whole: bool) -> bool
+    ensures { result ≡ reached (ends_of op.slice) (number_of op.index) (number_of key.index) whole }
+{
+    match (op.slice, op.index) {
+        (Some((a, b)), _) => is_within(key, a, b),
+        (None, Some(_)) => key.index == op.index,
+        (None, None) => whole,
     }
 }

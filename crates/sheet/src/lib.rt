@@ -1,5 +1,5 @@
-// The mark sheet: for each key of the index the place of the measure statement that marked it, or 0.
-// The walk over a tree calls these functions. The index has the keys that the walk has met; behind them the sheet is blank.
+// The mark sheet: for each key the place of the measure statement that marked it, or 0.
+// The walk over a tree calls these functions with the keys that it has met; behind them the sheet is blank.
 #![tactic(auto)]
 
 mod keys;
@@ -7,16 +7,15 @@ pub mod new_keys;
 
 ghost use Rattle.std.specs.Prelude.{◌≡◌, List, Bool, cond, ℕ, ◌≤◌, ◌<◌, length};
 ghost use Rattle.span.specs.declared.Span.{Span};
-ghost use Rattle.sema.specs.Marks.{Key, no_marks, in_slice, apply, clear_measured, unite as uniteMarks};
+ghost use Rattle.sema.specs.Marks.{Key as MarkKey, no_marks, in_slice, apply, clear_measured, unite as uniteMarks};
 ghost use Rattle.sema.specs.Keys.{same_key};
-ghost use Rattle.context.specs.Values.{number_of, ends_of, operand_of};
-ghost use Rattle.context.specs.View.{key_at, keys_in, place_in, marks_of, measure_span, PlaceOk, Placed};
-ghost use Rattle.sheet.specs.declared.keys.IndexKey.{IndexKey as KeyValue};
-ghost use Rattle.sheet.specs.Sheet.{Indexed, key_of, lookup_in, smaller, offer, least_in, smallest_in, Distinct, Covers, reached, measuring, stored, first};
+ghost use Rattle.context.specs.Values.{number_of, operand_of, key_of};
+ghost use Rattle.context.specs.View.{keys_of, place_in, marks_of, measure_span, PlaceOk, Placed};
+ghost use Rattle.sheet.specs.Sheet.{lookup_in, smaller, offer, least_in, smallest_in, Distinct, Covers, measuring, stored, first};
 ghost use Rattle.sheet.specs.Behind.{Blank};
 
-use crate::keys::IndexKey;
-use context::{GateOperand, Index};
+use context::{GateOperand, Key};
+use keys::{is_below, is_reached};
 
 // A place, or another where it is none.
 fn either(place: u16, other: u16) -> u16
@@ -25,12 +24,11 @@ fn either(place: u16, other: u16) -> u16
     if place == 0 { other } else { place }
 }
 
-// The place of number k where it has one and is the key, or else the one that was met before.
-fn met(index: &Index, k: usize, place: u16, key: IndexKey, before: u16) -> u16
-    requires { k < 256 }
-    ensures { result ≡ first (cond (same_key (key_at index.now k) (key_of key)) place 0) before }
+// The place of a key where it has one and is the key sought, or else the place that was met before.
+fn met(own: Key, place: u16, key: Key, before: u16) -> u16
+    ensures { result ≡ first (cond (same_key (key_of own) (key_of key)) place 0) before }
 {
-    if place != 0 && IndexKey::at(index, k) == key {
+    if place != 0 && own == key {
         place
     } else {
         before
@@ -39,20 +37,23 @@ fn met(index: &Index, k: usize, place: u16, key: IndexKey, before: u16) -> u16
 
 // The place of the mark that covers a name, or an index of it; 0 where there is none. No two keys are equal, so one without a mark is
 // not read.
-pub fn lookup(sheet: &[u16; 256], index: &Index, count: usize, x: usize, i: Option<u64>) -> u16
-    requires indexed { Indexed index.now count }
-    requires distinct { Distinct (keys_in index.now count) }
-    requires x_bound { x < 256 }
-    ensures { result ≡ lookup_in (keys_in index.now count) sheet.now x (number_of i) }
+pub fn lookup(sheet: &[u16; 256], keys: &[Key], x: usize, i: Option<u64>) -> u16
+    requires few { length keys.now ≤ 256 }
+    requires distinct { Distinct (keys_of keys.now) }
+    ensures { result ≡ lookup_in (keys_of keys.now) sheet.now x (number_of i) }
 {
-    let key = IndexKey::new(x, i);
-    let name = IndexKey::new(x, None);
+    let key = Key { name: x, index: i };
+    let name = Key {
+        name: x,
+        index: None,
+    };
     let mut own = 0;
     let mut whole = 0;
-    for k in 0..count {
+    // The place by its number, as in `unite`.
+    for (k, met_key) in keys.iter().enumerate() {
         let place = sheet[k];
-        own = met(index, k, place, key, own);
-        whole = met(index, k, place, name, whole);
+        own = met(*met_key, place, key, own);
+        whole = met(*met_key, place, name, whole);
     }
     either(own, whole)
 }
@@ -86,21 +87,14 @@ fn offered(
 }
 
 // The smallest index of a slice whose own key is marked.
-fn least(
-    sheet: &[u16; 256],
-    index: &Index,
-    count: usize,
-    x: usize,
-    a: u64,
-    b: u64,
-) -> Option<(u64, u16)>
-    requires { Indexed index.now count }
-    ensures { result ≡ least_in x (a, b) (keys_in index.now count) sheet.now }
+fn least(sheet: &[u16; 256], keys: &[Key], x: usize, a: u64, b: u64) -> Option<(u64, u16)>
+    requires { length keys.now ≤ 256 }
+    ensures { result ≡ least_in x (a, b) (keys_of keys.now) sheet.now }
 {
     let mut best = None;
-    for k in (0..count).rev() {
+    for k in (0..keys.len()).rev() {
         let place = sheet[k];
-        let key = IndexKey::at(index, k);
+        let key = keys[k];
         if place != 0 && key.name == x {
             best = offered(key.index, place, a, b, best);
         }
@@ -109,100 +103,64 @@ fn least(
 }
 
 // The smallest index of a slice that a mark covers, and the mark's place.
-pub fn smallest(
-    sheet: &[u16; 256],
-    index: &Index,
-    count: usize,
-    x: usize,
-    a: u64,
-    b: u64,
-) -> Option<(u64, u16)>
-    requires indexed { Indexed index.now count }
-    requires distinct { Distinct (keys_in index.now count) }
-    requires x_bound { x < 256 }
-    ensures { result ≡ smallest_in (keys_in index.now count) sheet.now x (a, b) }
+pub fn smallest(sheet: &[u16; 256], keys: &[Key], x: usize, a: u64, b: u64) -> Option<(u64, u16)>
+    requires few { length keys.now ≤ 256 }
+    requires distinct { Distinct (keys_of keys.now) }
+    ensures { result ≡ smallest_in (keys_of keys.now) sheet.now x (a, b) }
 {
     if b < a {
         None
-    } else if lookup(sheet, index, count, x, None) == 0 {
-        least(sheet, index, count, x, a, b)
+    } else if lookup(sheet, keys, x, None) == 0 {
+        least(sheet, keys, x, a, b)
     } else {
-        Some((a, lookup(sheet, index, count, x, Some(a))))
-    }
-}
-
-// Of the keys of its name an operand reaches its index, or those of its slice; where it is a name alone, `whole` says so.
-#[tactic(auto, unfolding(crate::specs::Sheet::reached, sema::specs::Marks::is_index))]
-fn is_reached(op: GateOperand, key: IndexKey, whole: bool) -> bool
-    ensures { result ≡ reached (ends_of op.slice) (number_of op.index) (number_of key.index) whole }
-{
-    match (op.slice, op.index) {
-        (Some((a, b)), _) => key.is_within(a, b),
-        (None, Some(_)) => key.index == op.index,
-        (None, None) => whole,
+        Some((a, lookup(sheet, keys, x, Some(a))))
     }
 }
 
 // The place for each key that passes the test.
-fn store<F: Fn(IndexKey) -> bool>(
-    sheet: &mut [u16; 256],
-    index: &Index,
-    count: usize,
-    place: u16,
-    test: F,
-)
-    requires sheet_len { length sheet.old ≡ 256 }
-    requires indexed { Indexed index.now count }
+fn store<F: Fn(Key) -> bool>(sheet: &mut [u16; 256], keys: &[Key], place: u16, test: F)
+    requires few { length keys.now ≤ 256 }
     requires callable { F.IsAlwaysCallable test }
-    ensures { (t : Key → Bool) → ((k : KeyValue) (r : Bool) → F.post test k r → r ≡ t (key_of k)) → sheet.new ≡ stored t place (keys_in index.now count) sheet.old }
+    ensures { (t : MarkKey → Bool) → ((k : Key) (r : Bool) → F.post test k r → r ≡ t (key_of k)) → sheet.new ≡ stored t place (keys_of keys.now) sheet.old }
 {
-    for k in 0..count {
-        if test(IndexKey::at(index, k)) {
+    for (k, key) in keys.iter().enumerate() {
+        if test(*key) {
             sheet[k] = place;
         }
     }
 }
 
 // `mark_measured` by the measure statement at a place, where the operand's name shows a size. Its keys are in the index.
-pub fn set(
-    sheet: &mut [u16; 256],
-    index: &Index,
-    count: usize,
-    op: GateOperand,
-    size: Option<u64>,
-    place: u16,
-)
-    requires sheet_len { length sheet.old ≡ 256 }
-    requires indexed { Indexed index.now count }
+pub fn set(sheet: &mut [u16; 256], keys: &[Key], op: GateOperand, size: Option<u64>, place: u16)
+    requires few { length keys.now ≤ 256 }
     requires place_nonzero { 0 < place }
-    requires covers { Covers (keys_in index.now count) (measuring (number_of size) (operand_of op)) }
+    requires covers { Covers (keys_of keys.now) (measuring (number_of size) (operand_of op)) }
     ensures placed { (tree : List ℕ) → PlaceOk tree place → Placed tree sheet.old → Placed tree sheet.new }
-    ensures marks { (tree : List ℕ) → marks_of tree (keys_in index.now count) sheet.new ≡ apply (measuring (number_of size) (operand_of op)) (measure_span tree place) (marks_of tree (keys_in index.now count) sheet.old) }
-    ensures behind { (n : ℕ) → count ≤ n → Blank n sheet.old → Blank n sheet.new }
+    ensures marks { (tree : List ℕ) → marks_of tree (keys_of keys.now) sheet.new ≡ apply (measuring (number_of size) (operand_of op)) (measure_span tree place) (marks_of tree (keys_of keys.now) sheet.old) }
+    ensures behind { (n : ℕ) → length keys.now ≤ n → Blank n sheet.old → Blank n sheet.new }
 {
-    let test = |key: IndexKey| key.name == op.name && is_reached(op, key, key.is_below(size));
-    store(sheet, index, count, place, test);
+    let test = |key: Key| key.name == op.name && is_reached(op, key, is_below(key, size));
+    store(sheet, keys, place, test);
 }
 
 // `clear_measured`.
-pub fn clear(sheet: &mut [u16; 256], index: &Index, count: usize, op: GateOperand)
-    requires sheet_len { length sheet.old ≡ 256 }
-    requires indexed { Indexed index.now count }
+pub fn clear(sheet: &mut [u16; 256], keys: &[Key], op: GateOperand)
+    requires few { length keys.now ≤ 256 }
     ensures placed { (tree : List ℕ) → Placed tree sheet.old → Placed tree sheet.new }
-    ensures marks { (tree : List ℕ) (sp : Span) → marks_of tree (keys_in index.now count) sheet.new ≡ apply (clear_measured (operand_of op)) sp (marks_of tree (keys_in index.now count) sheet.old) }
-    ensures behind { (n : ℕ) → count ≤ n → Blank n sheet.old → Blank n sheet.new }
+    ensures marks { (tree : List ℕ) (sp : Span) → marks_of tree (keys_of keys.now) sheet.new ≡ apply (clear_measured (operand_of op)) sp (marks_of tree (keys_of keys.now) sheet.old) }
+    ensures behind { (n : ℕ) → length keys.now ≤ n → Blank n sheet.old → Blank n sheet.new }
 {
-    let test = |key: IndexKey| key.name == op.name && is_reached(op, key, true);
-    store(sheet, index, count, 0, test);
+    let test = |key: Key| key.name == op.name && is_reached(op, key, true);
+    store(sheet, keys, 0, test);
 }
 
 // Both exits of a branch, into b: the marks of a, and where it has none those of b.
 pub fn unite(a: &[u16; 256], b: &mut [u16; 256])
-    requires { (length a.now ≡ 256) × (length b.old ≡ 256) }
     ensures placed { (tree : List ℕ) → Placed tree a.now → Placed tree b.old → Placed tree b.new }
-    ensures marks { (tree : List ℕ) (ks : List Key) → marks_of tree ks b.new ≡ uniteMarks (marks_of tree ks a.now) (marks_of tree ks b.old) }
+    ensures marks { (tree : List ℕ) (ks : List MarkKey) → marks_of tree ks b.new ≡ uniteMarks (marks_of tree ks a.now) (marks_of tree ks b.old) }
     ensures behind { (n : ℕ) → Blank n a.now → Blank n b.old → Blank n b.new }
 {
+    // The other by its number: over a zip of both the proof did not close.
     for (i, place) in b.iter_mut().enumerate() {
         *place = either(a[i], *place);
     }
@@ -210,7 +168,7 @@ pub fn unite(a: &[u16; 256], b: &mut [u16; 256])
 
 pub fn blank() -> [u16; 256]
     ensures placed { (tree : List ℕ) → Placed tree result }
-    ensures marks { (tree : List ℕ) (ks : List Key) → marks_of tree ks result ≡ no_marks }
+    ensures marks { (tree : List ℕ) (ks : List MarkKey) → marks_of tree ks result ≡ no_marks }
     ensures behind { Blank 0 result }
 {
     [0; 256]

@@ -18,6 +18,7 @@ use Rattle.sema.specs.Keys.{keys_stmt, keys_else}
 use Rattle.sema.specs.Exprs.{require_type}
 use Rattle.sema.specs.Stmts.{SemaContext, analyze_stmt, analyze_stmts, analyze_else, gate_says, range_says, step_says}
 use Rattle.context.specs.declared.State.{State}
+use Rattle.context.specs.declared.Key.{Key as KeyValue}
 use Rattle.std.specs.Prelude.{Option as Maybe, Some, None}
 use Rattle.context.specs.View.{span_at, type_of, number_at, keys_in, scopes_of, functions_of, marks_of, context_of}
 use Rattle.accepted.specs.Cases.{blank, blank_range}
@@ -79,16 +80,16 @@ module _ (tree : List ℕ) (left at : ℕ) (h : IsOk (stmt (texts_of tree) left 
     unfolding keys_stmt
     while-holds = record { some = stmt-left (texts_of tree) left tree at h; further = while-further tree left at h b; held = while_loop-body (texts_of tree) left tree at h b _ refl; keys = λ ss ks. given_is while_is ks (λ st. keys_stmt st ss ks) }
 
-module _ {tree index : List ℕ} {left : ℕ} {st : State} {s : List ℕ} (a : StmtAsked tree index left st s) where
+module _ {tree : List ℕ} {index : List KeyValue} {left : ℕ} {st : State} {s : List ℕ} (a : StmtAsked tree index left st s) where
   -- a gate definition, its body opened
   module _ (b : get_or tree st.at 0 ≡ 6) {o : List ℕ} {i : State} {s' o' : List ℕ} (p : GateOpened tree left st s o i s' o') where
     pub gate-below : {t : ℕ} → 2 * (length tree - st.at) ≡ t → (2 * (length tree - i.at) < t) × BodyAsked tree index (left - 1) i s'
     gate-below = held_below (gate-holds tree left st.at a.accepted b) p a
 
-    pub gate-over : {index' s'' o'' : List ℕ} → BodyWent tree (left - 1) i index s' o' None index' s'' o'' → StmtWent tree left st index s o None index' s'' o''
+    pub gate-over : {index' : List KeyValue} {s'' o'' : List ℕ} → BodyWent tree (left - 1) i index s' o' None index' s'' o'' → StmtWent tree left st index s o None index' s'' o''
     gate-over g = held_over (gate-holds tree left st.at a.accepted b) p a g _
 
-    module _ {w : State} {index' s'' o'' : List ℕ} (g : BodyWent tree (left - 1) i index s' o' (Some w) index' s'' o'') where
+    module _ {w : State} {index' : List KeyValue} {s'' o'' : List ℕ} (g : BodyWent tree (left - 1) i index s' o' (Some w) index' s'' o'') where
       pub gate-room : w.at + 8 ≤ length tree
       gate-room = rw g.reached.0.at (span-room (gate_is tree left st.at a.accepted b) (gate-holds tree left st.at a.accepted b) p a)
 
@@ -99,9 +100,9 @@ module _ {tree index : List ℕ} {left : ℕ} {st : State} {s : List ℕ} (a : S
           held_went H p a
           (went_as g r k
           (λ v.
-          let u = body-walked tree index' w.keys left H.some a.shallow _ i p.at H.held (λ x. x) (λ n. n) v in
-          subst (λ (n : ℕ). StmtWalked tree index' n left st s o r s'' o'') (sym k)
-          (stmt-walked tree index' w.keys left st (gate_is tree left st.at a.accepted b)
+          let u = body-walked tree (keys_in index' w.keys) left H.some a.shallow _ i p.at H.held (λ x. x) (λ n. n) v in
+          subst (λ (n : ℕ). StmtWalked tree (keys_in index' n) left st s o r s'' o'') (sym k)
+          (stmt-walked tree (keys_in index' w.keys) left st (gate_is tree left st.at a.accepted b)
           (enclosed tree (keys_in index' w.keys) p _ u _ _ _ r refl (ap (marks_of tree (keys_in index' w.keys)) z ∙ ended-marks tree (keys_in index' w.keys) p _ u) (rw z v.placed) (x ∙ ap (λ (n : ℕ). n + 8) u.at) y)))
           (λ x. rw z x))
 
@@ -110,7 +111,7 @@ module _ {tree index : List ℕ} {left : ℕ} {st : State} {s : List ℕ} (a : S
     pub for_below : {t : ℕ} → 2 * (length tree - st.at) ≡ t → (2 * (length tree - i.at) + 1 < t) × LoopAsked tree index (left - 1) i s'
     for_below = loop-below (for_is tree left st.at a.accepted b) (for_holds tree left st.at a.accepted b) p a
 
-    pub for_went : (w : Maybe State) {index' s'' o'' : List ℕ} → LoopWent tree (left - 1) i index s' o' w index' s'' o'' → StmtWent tree left st index s o w index' s'' o''
+    pub for_went : (w : Maybe State) {index' : List KeyValue} {s'' o'' : List ℕ} → LoopWent tree (left - 1) i index s' o' w index' s'' o'' → StmtWent tree left st index s o w index' s'' o''
     unfolding analyze_stmt
     for_went w g =
         let ty = type_of (get_or tree (st.at + 3) 0) in
@@ -123,14 +124,14 @@ module _ {tree index : List ℕ} {left : ℕ} {st : State} {s : List ℕ} (a : S
     pub while-below : {t : ℕ} → 2 * (length tree - st.at) ≡ t → (2 * (length tree - i.at) + 1 < t) × LoopAsked tree index (left - 1) i s'
     while-below = loop-below (while_is tree left st.at a.accepted b) (while-holds tree left st.at a.accepted b) p a
 
-    pub while_went : (w : Maybe State) {index' s'' o'' : List ℕ} → LoopWent tree (left - 1) i index s' o' w index' s'' o'' → StmtWent tree left st index s o w index' s'' o''
+    pub while_went : (w : Maybe State) {index' : List KeyValue} {s'' o'' : List ℕ} → LoopWent tree (left - 1) i index s' o' w index' s'' o'' → StmtWent tree left st index s o w index' s'' o''
     unfolding analyze_stmt
     while_went w g =
         let e = given_ok blank [] (λ e. require_type (scopes_of s (9 - left)) (functions_of s) e ClassicalType.Bool Messages.while_condition) (held (texts_of tree) tree (st.at + 1)) (while_loop-condition (texts_of tree) left tree st.at a.accepted b) in
         loop_went (while_is tree left st.at a.accepted b) (while-holds tree left st.at a.accepted b) p a w g (λ ks. rw e)
 
 -- An `else`, after a `then` body.
-module _ {tree index : List ℕ} {left : ℕ} {entry : List ℕ} {t : State} {s : List ℕ} (a : ElseAsked tree index left entry t s) where
+module _ {tree : List ℕ} {index : List KeyValue} {left : ℕ} {entry : List ℕ} {t : State} {s : List ℕ} (a : ElseAsked tree index left entry t s) where
   abbrev h : IsOk (else_body (stmt (texts_of tree) (left - 1)) tree t.at)
   h = a.asked.accepted
 
@@ -139,7 +140,7 @@ module _ {tree index : List ℕ} {left : ℕ} {entry : List ℕ} {t : State} {s 
   ended ks = context_of tree ks s (suc (9 - left)) t.marks
 
   -- there is none: entry and exit are united, and there is no key
-  pub none_went : get_or tree t.at 0 ≡ 0 → {o : List ℕ} (r : State) → r.at ≡ t.at + 1 → r.sink ≡ t.sink → r.keys ≡ t.keys → United entry t.marks r.marks → ElseWent tree left entry t index s o (Some r) index s o
+  pub none_went : get_or tree t.at 0 ≡ 0 → {o : List ℕ} (r : State) → r.at ≡ t.at + 9 → r.sink ≡ t.sink → r.keys ≡ t.keys → United entry t.marks r.marks → ElseWent tree left entry t index s o (Some r) index s o
   unfolding analyze_else keys_else
   none_went b {o = o} r x y k u =
       let e = else_none (stmt (texts_of tree) (left - 1)) tree t.at h b in
@@ -147,14 +148,14 @@ module _ {tree index : List ℕ} {left : ℕ} {entry : List ℕ} {t : State} {s 
       let c = context_of tree ks s (9 - left) entry in
       let g : walk_else (texts_of tree) (ended ks) (else_body (stmt (texts_of tree) (left - 1)) tree t.at) c ≡ analyze_else (texts_of tree) no_else c (ended ks) = given_is e _ _ in
       record {
-        grown = (rw (k, given_is e ks (λ q. keys_else q (scopes_of s (9 - left)) ks)) refl, rw k a.asked.walkable.indexed.few);
+        grown = (rw (k, given_is e ks (λ q. keys_else q (scopes_of s (9 - left)) ks)) refl, rw k a.asked.indexed.few);
         index-length = refl;
         scratch-length = refl;
         scratch-rest = refl;
         reached = (
           subst (λ (n : ℕ). ElseWalked tree (keys_in index n) left entry t s o r s o) (sym k)
               (record {
-                at = x ∙ sym (next_is e);
+                at = omega (arith, x, next_is e);
                 goes = context_is refl refl refl (u.1.0 tree ks) ∙ sym (ap (λ q. q.0) g);
                 emitted = emitted_as (rw y emitted-none) (sym (ap (λ q. q.1) g));
                 below = λ n l. refl;
@@ -182,20 +183,23 @@ module _ {tree index : List ℕ} {left : ℕ} {entry : List ℕ} {t : State} {s 
     pub some_below : {n : ℕ} → 2 * (length tree - t.at) ≡ n → (2 * (length tree - (t.at + 1)) < n) × BodyAsked tree index (left - 1) (else_start t entry) s'
     some_below = held_below some_holds (some-opened []) a.asked
 
-    pub some-over : {o index' s'' o'' : List ℕ} → BodyWent tree (left - 1) (else_start t entry) index s' o None index' s'' o'' → ElseWent tree left entry t index s o None index' s'' o''
+    pub some-over : {o : List ℕ} {index' : List KeyValue} {s'' o'' : List ℕ} → BodyWent tree (left - 1) (else_start t entry) index s' o None index' s'' o'' → ElseWent tree left entry t index s o None index' s'' o''
     some-over {o} g = held_over some_holds (some-opened o) a.asked g _
 
-    module _ {o : List ℕ} {w : State} {index' s'' o'' : List ℕ} (g : BodyWent tree (left - 1) (else_start t entry) index s' o (Some w) index' s'' o'') where
-      pub some_went : (r : State) → r.at ≡ w.at → r.sink ≡ w.sink → r.keys ≡ w.keys → United t.marks w.marks r.marks → ElseWent tree left entry t index s o (Some r) index' s'' o''
+    module _ {o : List ℕ} {w : State} {index' : List KeyValue} {s'' o'' : List ℕ} (g : BodyWent tree (left - 1) (else_start t entry) index s' o (Some w) index' s'' o'') where
+      pub some-room : w.at + 8 ≤ length tree
+      some-room = omega (arith, g.reached.0.at, next_is some_is, a.room)
+
+      pub some_went : (r : State) → r.at ≡ w.at + 8 → r.sink ≡ w.sink → r.keys ≡ w.keys → United t.marks w.marks r.marks → ElseWent tree left entry t index s o (Some r) index' s'' o''
       unfolding analyze_else
       some_went r x y k u =
           let ks = keys_in index' w.keys in
           held_went some_holds (some-opened o) a.asked
           (went_as g r k
           (λ v.
-          let q = body-walked tree index' w.keys left a.some a.asked.shallow _ (else_start t entry) refl some_holds.held (λ x. x) (λ n. n) v in
+          let q = body-walked tree (keys_in index' w.keys) left a.some a.asked.shallow _ (else_start t entry) refl some_holds.held (λ x. x) (λ n. n) v in
           let B : Walk = analyze_stmts (texts_of tree) (value_or no_stmt (body (stmt (texts_of tree) (left - 1)) tree (t.at + 1))) in
           subst (λ (n : ℕ). ElseWalked tree (keys_in index' n) left entry t s o r s'' o'') (sym k)
           (enclosed tree ks (some-opened o) B q _ _ _ r (given_is some_is _ (λ x. analyze_else (texts_of tree) x (context_of tree ks s (9 - left) entry) (ended ks)))
-          (u.1.0 tree ks ∙ ap (unite (marks_of tree ks t.marks)) (ended-marks tree ks (some-opened o) B q)) (u.0 tree a.placed v.placed) (x ∙ q.at ∙ sym (next_is some_is)) y))
-          (λ b. u.1.1 w.keys (blank_longer _ _ (body_longer _ _ _) g.grown.0 a.blank) b))
+          (u.1.0 tree ks ∙ ap (unite (marks_of tree ks t.marks)) (ended-marks tree ks (some-opened o) B q)) (u.0 tree a.placed v.placed) (x ∙ ap (λ (n : ℕ). n + 8) (q.at ∙ sym (next_is some_is))) y))
+          (λ b. u.1.1 w.keys (blank_longer _ _ a.asked.indexed (body_longer _ _ _) g.grown.0 a.blank) b))

@@ -3,9 +3,7 @@ use Prim.Native.Nat.{ℕ, suc, ◌-◌, ◌≤◌, ◌<◌}
 use mathlib.Core.Path.{◌≡◌, refl, sym, ap, subst, ◌∙◌}
 use mathlib.Core.List.{List, ◌∷◌, ◌++◌}
 use native.Mathlib.Omega.{arith}
-use lib.ListN.{length}
 use Rattle.ast.specs.Tree.{Text, no_stmt, Else, no_else, some_else}
-use Rattle.tree.specs.Limits.{file_limit}
 use Rattle.tree.specs.Ans.{next_of, IsOk}
 use Rattle.tree.specs.Stmts.{body, stmt}
 use Rattle.tree.specs.Decode.{texts_of}
@@ -15,12 +13,11 @@ use Rattle.sema.specs.Marks.{Key, Marks}
 use Rattle.sema.specs.Stmts.{SemaContext, leave, analyze_stmts, analyze_else}
 use Rattle.context.specs.declared.After.{After}
 use Rattle.context.specs.declared.State.{State}
-use Rattle.context.specs.View.{Placed, keys_in, scopes_of, functions_of, marks_of, context_of}
+use Rattle.context.specs.View.{Placed, scopes_of, functions_of, marks_of, context_of}
 use Rattle.tables.specs.Laws.{few-after}
 use Rattle.accepted.specs.Parts.{value_or, given_ok}
 use Rattle.scopes.specs.Laws.{entered_below}
 use Rattle.promises.specs.Emitted.{emitted_then, emitted_as}
-use Rattle.promises.specs.Went.{StmtAsked}
 use Rattle.promises.specs.Walks.{state_of, Ready, Walk, Walked, walk_body}
 use Rattle.promises.specs.WalkLaws.{context_is, walked_as}
 use Rattle.bodies.specs.Opened.{Opened}
@@ -28,11 +25,6 @@ use Rattle.walk.specs.Bodies.{moved_to}
 
 pub level : (left : ℕ) → 0 < left → left ≤ 8 → 9 - (left - 1) ≡ suc (9 - left)
 level left a b = omega arith
-
--- what is asked before a body
-pub open_asked : {tree index : List ℕ} {left : ℕ} {st : State} {s : List ℕ} {case : Type 0} → StmtAsked tree index left st s × case
-    → (length tree ≤ file_limit) × (65536 ≤ length s) × IsOk (stmt (texts_of tree) left tree st.at) × (left ≤ 8) × case
-open_asked a = let p = a.0 in (p.walkable.small, p.ready.room, p.accepted, p.shallow, a.1)
 
 -- the body opened, whatever the marks, and the state moved there
 pub opened_moved : {t : List Text} {depth : ℕ} {scope : Scope} {gates : Table GateSig} {ds : List Diagnostic} {place : ℕ} (st : State) (a : After) {s o s' o' : List ℕ}
@@ -84,14 +76,14 @@ module _ (tree : List ℕ) {t : List Text} (ks : List Key) {depth : ℕ} {scope 
         }
 
 -- a body that was walked, by the statements that were read and the depth of its statement; what is made of it, and of its end, follows
-module _ (tree index : List ℕ) (keys left : ℕ) (a : 0 < left) (l : left ≤ 8) (place : ℕ) (i : State) (e : i.at ≡ place) (h : IsOk (body (stmt (texts_of tree) (left - 1)) tree place)) where
+module _ (tree : List ℕ) (ks : List Key) (left : ℕ) (a : 0 < left) (l : left ≤ 8) (place : ℕ) (i : State) (e : i.at ≡ place) (h : IsOk (body (stmt (texts_of tree) (left - 1)) tree place)) where
   pub body-walked : (f : Walk → Walk) (g : ℕ → ℕ) {s o : List ℕ} {r : State} {s' o' : List ℕ}
-      → Walked tree (texts_of tree) (keys_in index keys) (9 - (left - 1)) (f (walk_body (texts_of tree) (body (stmt (texts_of tree) (left - 1)) tree i.at))) (g (next_of (body (stmt (texts_of tree) (left - 1)) tree i.at))) i s o r s' o'
-      → Walked tree (texts_of tree) (keys_in index keys) (suc (9 - left)) (f (analyze_stmts (texts_of tree) (value_or no_stmt (body (stmt (texts_of tree) (left - 1)) tree place)))) (g (next_of (body (stmt (texts_of tree) (left - 1)) tree place))) i s o r s' o'
+      → Walked tree (texts_of tree) ks (9 - (left - 1)) (f (walk_body (texts_of tree) (body (stmt (texts_of tree) (left - 1)) tree i.at))) (g (next_of (body (stmt (texts_of tree) (left - 1)) tree i.at))) i s o r s' o'
+      → Walked tree (texts_of tree) ks (suc (9 - left)) (f (analyze_stmts (texts_of tree) (value_or no_stmt (body (stmt (texts_of tree) (left - 1)) tree place)))) (g (next_of (body (stmt (texts_of tree) (left - 1)) tree place))) i s o r s' o'
   body-walked f g {s = s} {o = o} {r = r} {s' = s'} {o' = o'} w =
       let t = texts_of tree in
       let x = body (stmt t (left - 1)) tree in
-      subst (λ (d : ℕ). Walked tree t (keys_in index keys) d (f (analyze_stmts t (value_or no_stmt (x place)))) (g (next_of (x place))) i s o r s' o') (level left a l)
+      subst (λ (d : ℕ). Walked tree t ks d (f (analyze_stmts t (value_or no_stmt (x place)))) (g (next_of (x place))) i s o r s' o') (level left a l)
       (walked_as (ap f (ap (λ (k : ℕ). walk_body t (x k)) e ∙ given_ok no_stmt _ (analyze_stmts t) (x place) h)) (ap (λ (k : ℕ). g (next_of (x k))) e) w)
 
 -- an `else` goes by the symbols and the marks of its entry

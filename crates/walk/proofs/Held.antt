@@ -14,6 +14,7 @@ use Rattle.sema.specs.Marks.{Key, unite, after_loop}
 use Rattle.sema.specs.Keys.{keys_stmts}
 use Rattle.sema.specs.Stmts.{SemaContext, leave, analyze_stmt, analyze_stmts}
 use Rattle.context.specs.declared.State.{State}
+use Rattle.context.specs.declared.Key.{Key as KeyValue}
 use Rattle.std.specs.Prelude.{Option, Some, None}
 use Rattle.context.specs.View.{Placed, keys_in, scopes_of, marks_of, context_of}
 use Rattle.accepted.specs.Parts.{value_or, given_ok, end_in}
@@ -40,10 +41,10 @@ module _ {tree : List ℕ} {left : ℕ} {keys_of : Symbols → List Key → List
   held-falls : i.at < length tree × (st.at < i.at)
   held-falls = (rw p.at (let n = body_in _ _ _ H.held in omega arith), rw p.at H.further)
 
-  module _ {index : List ℕ} {A : Type 0} {x : Ans A} (a : Asked x tree index left st s) where
+  module _ {index : List KeyValue} {A : Type 0} {x : Ans A} (a : Asked x tree index left st s) where
     -- what the walk over it asks
     pub held-asked : BodyAsked tree index (left - 1) i s'
-    held-asked = record { walkable = rw p.keys a.walkable; ready = opened-ready p a.ready; accepted = rw p.at H.held; shallow = omega (arith, a.shallow); blank = rw (p.keys, p.marks) a.blank }
+    held-asked = record { indexed = rw p.keys a.indexed; walkable = rw p.keys a.walkable; ready = opened-ready p a.ready; accepted = rw p.at H.held; shallow = omega (arith, a.shallow); blank = rw (p.keys, p.marks) a.blank }
 
     -- and it falls below the measure of what holds it
     pub held_below : {t : ℕ} → 2 * (length tree - st.at) ≡ t → (2 * (length tree - i.at) < t) × BodyAsked tree index (left - 1) i s'
@@ -56,7 +57,7 @@ module _ {tree : List ℕ} {left : ℕ} {keys_of : Symbols → List Key → List
         (given_ok no_stmt _ (λ b. keys_stmts b (scope ∷ scopes_of s (9 - left)) (keys_in index st.keys)) (body (stmt (texts_of tree) (left - 1)) tree place) H.held ∙ sym (H.keys (scopes_of s (9 - left)) (keys_in index st.keys)))
 
     -- what holds it was walked over, or the walk has stopped
-    pub held_went : {index' s'' : List ℕ} {r : Option State} {X : State → Type 0} → Went index index' (body_keys (body (stmt (texts_of tree) (left - 1)) tree i.at) (scopes_of s' (9 - (left - 1))) (keys_in index i.keys)) s' s'' r X
+    pub held_went : {index' : List KeyValue} {s'' : List ℕ} {r : Option State} {X : State → Type 0} → Went index index' (body_keys (body (stmt (texts_of tree) (left - 1)) tree i.at) (scopes_of s' (9 - (left - 1))) (keys_in index i.keys)) s' s'' r X
         → Went index index' (keys_of (scopes_of s (9 - left)) (keys_in index st.keys)) s s'' r X
     held_went g =
         record {
@@ -67,12 +68,12 @@ module _ {tree : List ℕ} {left : ℕ} {keys_of : Symbols → List Key → List
           reached = g.reached;
         }
 
-    pub held_over : {index' s'' : List ℕ} {W : State → Type 0} → Went index index' (body_keys (body (stmt (texts_of tree) (left - 1)) tree i.at) (scopes_of s' (9 - (left - 1))) (keys_in index i.keys)) s' s'' None W
+    pub held_over : {index' : List KeyValue} {s'' : List ℕ} {W : State → Type 0} → Went index index' (body_keys (body (stmt (texts_of tree) (left - 1)) tree i.at) (scopes_of s' (9 - (left - 1))) (keys_in index i.keys)) s' s'' None W
         → (X : State → Type 0) → Went index index' (keys_of (scopes_of s (9 - left)) (keys_in index st.keys)) s s'' None X
     held_over g X = held_went (went_over g _ (omega arith) X)
 
 -- a statement that ends in a body and a span
-module _ {tree index : List ℕ} {left : ℕ} {st : State} {S : Stmt} {scope : Scope} {place : ℕ} (is : stmt (texts_of tree) left tree st.at ≡ ok S (next_of (body (stmt (texts_of tree) (left - 1)) tree place) + 8))
+module _ {tree : List ℕ} {index : List KeyValue} {left : ℕ} {st : State} {S : Stmt} {scope : Scope} {place : ℕ} (is : stmt (texts_of tree) left tree st.at ≡ ok S (next_of (body (stmt (texts_of tree) (left - 1)) tree place) + 8))
     (H : Holds tree left st.at (stmt_keys (stmt (texts_of tree) left tree st.at)) scope place)
     {gates : Table GateSig} {ds : List Diagnostic} {s o : List ℕ} {i : State} {s' o' : List ℕ} (p : Opened (texts_of tree) (9 - left) scope gates ds place st s o i s' o') (a : StmtAsked tree index left st s) where
   -- there is room for the span
@@ -87,7 +88,7 @@ module _ {tree index : List ℕ} {left : ℕ} {st : State} {S : Stmt} {scope : S
   body_walk ks = analyze_stmts (texts_of tree) (value_or no_stmt (body (stmt (texts_of tree) (left - 1)) tree place)) (inner tree ks p)
 
   -- a loop was walked over with its body, or the walk has stopped
-  pub loop_went : {index' : List ℕ} (w : Option State) {s'' o'' : List ℕ} → LoopWent tree (left - 1) i index s' o' w index' s'' o''
+  pub loop_went : {index' : List KeyValue} (w : Option State) {s'' o'' : List ℕ} → LoopWent tree (left - 1) i index s' o' w index' s'' o''
       → ((ks : List Key) → analyze_stmt (texts_of tree) S (context_of tree ks s (9 - left) st.marks)
       ≡ (leave (context_of tree ks s (9 - left) st.marks) (body_walk ks).0 (after_loop (marks_of tree ks st.marks) (body_walk ks).0.measured), ds ++ (body_walk ks).1))
       → StmtWent tree left st index s o w index' s'' o''
@@ -97,8 +98,8 @@ module _ {tree index : List ℕ} {left : ℕ} {st : State} {S : Stmt} {scope : S
       held_went H p a
       (went_as g w refl
       (λ v.
-      let u = body-walked tree index' w.keys left H.some a.shallow place i p.at H.held looped (λ n. n + 8) v in
-      stmt-walked tree index' w.keys left st is (enclosed tree ks p _ u _ _ _ w (e ks) (ended-marks tree ks p _ u) v.placed u.at refl))
+      let u = body-walked tree (keys_in index' w.keys) left H.some a.shallow place i p.at H.held looped (λ n. n + 8) v in
+      stmt-walked tree (keys_in index' w.keys) left st is (enclosed tree ks p _ u _ _ _ w (e ks) (ended-marks tree ks p _ u) v.placed u.at refl))
       (λ b. b))
 
 -- the marks of two ways united
@@ -108,31 +109,24 @@ United a b b' =
     × (((tree : List ℕ) (ks : List Key) → marks_of tree ks b' ≡ unite (marks_of tree ks a) (marks_of tree ks b))
     × ((n : ℕ) → Blank n a → Blank n b → Blank n b'))
 
--- the body of a loop: the walk has stopped in it, or it was walked over
-module _ {tree index : List ℕ} {left : ℕ} {st : State} {s : List ℕ} (a : LoopAsked tree index left st s) {o index' s' o' : List ℕ} where
-  pub looped-over : BodyWent tree left st index s o None index' s' o' → LoopWent tree left st index s o None index' s' o'
-  looped-over g = went_over g _ (omega arith) _
-
-  module _ {w : State} (g : BodyWent tree left st index s o (Some w) index' s' o') where
-    pub looped-room : w.at + 8 ≤ length tree
-    looped-room = rw g.reached.0.at a.1
-
-    -- entry and exit are united
-    pub looped_went : (r : State) → r.at ≡ w.at + 8 → r.sink ≡ w.sink → r.keys ≡ w.keys → United st.marks w.marks r.marks → LoopWent tree left st index s o (Some r) index' s' o'
-    unfolding after_loop
-    looped_went r x y k u =
-        let ks = keys_in index' w.keys in
-        went_as g r k
-        (λ b.
-        subst (λ (n : ℕ). LoopWalked tree index' n left st s o r s' o') (sym k)
-        (record {
-          at = x ∙ ap (λ (n : ℕ). n + 8) b.at;
-          goes = context_is (ap (λ (c : SemaContext). c.symbols) b.goes) (ap (λ (c : SemaContext). c.gates) b.goes) (ap (λ (c : SemaContext). c.functions) b.goes) (u.1.0 tree ks ∙ ap (λ (c : SemaContext). unite (marks_of tree ks st.marks) c.measured) b.goes);
-          emitted = rw y b.emitted;
-          below = b.below;
-          same_length = b.same_length;
-          same_rest = b.same_rest;
-          few = b.few;
-          placed = u.0 tree a.0.ready.placed b.placed;
-        }))
-        (λ b. u.1.1 w.keys (blank_longer _ _ (body_longer _ _ _) g.grown.0 a.0.blank) b)
+-- the body of a loop was walked over
+module _ {tree : List ℕ} {index : List KeyValue} {left : ℕ} {st : State} {s : List ℕ} (a : LoopAsked tree index left st s) {o : List ℕ} {w : State} {index' : List KeyValue} {s' o' : List ℕ} (g : BodyWent tree left st index s o (Some w) index' s' o') where
+  -- entry and exit are united
+  pub looped_went : (r : State) → r.at ≡ w.at + 8 → r.sink ≡ w.sink → r.keys ≡ w.keys → United st.marks w.marks r.marks → LoopWent tree left st index s o (Some r) index' s' o'
+  unfolding after_loop
+  looped_went r x y k u =
+      let ks = keys_in index' w.keys in
+      went_as g r k
+      (λ b.
+      subst (λ (n : ℕ). LoopWalked tree (keys_in index' n) left st s o r s' o') (sym k)
+      (record {
+        at = x ∙ ap (λ (n : ℕ). n + 8) b.at;
+        goes = context_is (ap (λ (c : SemaContext). c.symbols) b.goes) (ap (λ (c : SemaContext). c.gates) b.goes) (ap (λ (c : SemaContext). c.functions) b.goes) (u.1.0 tree ks ∙ ap (λ (c : SemaContext). unite (marks_of tree ks st.marks) c.measured) b.goes);
+        emitted = rw y b.emitted;
+        below = b.below;
+        same_length = b.same_length;
+        same_rest = b.same_rest;
+        few = b.few;
+        placed = u.0 tree a.0.ready.placed b.placed;
+      }))
+      (λ b. u.1.1 w.keys (blank_longer _ _ a.0.indexed (body_longer _ _ _) g.grown.0 a.0.blank) b)

@@ -14,6 +14,7 @@ use Rattle.sema.specs.Keys.{keys_stmt, keys_stmts}
 use Rattle.sema.specs.Stmts.{SemaContext, analyze_stmt, analyze_stmts}
 use Rattle.context.specs.declared.Sink.{Sink}
 use Rattle.context.specs.declared.State.{State}
+use Rattle.context.specs.declared.Key.{Key as KeyValue}
 use Rattle.std.specs.Prelude.{Some, None}
 use Rattle.context.specs.Sink.{written_of, emit}
 use Rattle.context.specs.View.{number_at, keys_in, scopes_of, context_of}
@@ -23,15 +24,16 @@ use Rattle.accepted.specs.Cases.{blank_stmt}
 use Rattle.accepted.specs.Parts.{value_or, value_is, given_is, given_ok, next_is}
 use Rattle.accepted.specs.Fields.{repeat-none, repeat-first, repeat-rest, repeat_is}
 use Rattle.accepted.specs.Bodies.{stmt_forward, body_is, body-held}
+use Rattle.sheet.specs.Sheet.{Indexed}
 use Rattle.sheet.specs.Behind.{Blank}
 use Rattle.promises.specs.Walks.{Walkable, Ready, walk_stmt, walk_body}
 use Rattle.promises.specs.Went.{stmt_keys, body_keys, StmtAsked, BodyAsked, StmtWent, BodyWent}
-use Rattle.promises.specs.WentLaws.{longer_as, longer_length, stmt_longer, stmts_longer, marks_longer, blank-keys, blank_longer, walkable_longer, went_over}
+use Rattle.promises.specs.WentLaws.{indexed_longer, longer_as, longer_length, stmt_longer, stmts_longer, marks_longer, blank-keys, blank_longer, walkable_longer, went_over}
 use Rattle.sema.proofs.LawsOnly.{symbols-after}
 
 -- n statements of the body at a place remain from r on, with the keys so far in the index i; what the walk makes of them is what it makes of
 -- the whole from st on, and so of their keys
-pub record Going (tree : List ℕ) (left at : ℕ) (st : State) (i₀ s o : List ℕ) (n : ℕ) (r : State) (i s' o' : List ℕ) : Type 0 where
+pub record Going (tree : List ℕ) (left at : ℕ) (st : State) (i₀ : List KeyValue) (s o : List ℕ) (n : ℕ) (r : State) (i : List KeyValue) (s' o' : List ℕ) : Type 0 where
   pub past : st.at ≤ r.at
   pub rest : IsOk (repeat no_stmt more_stmt (stmt (texts_of tree) left) n tree r.at)
   pub ends : next_of (body (stmt (texts_of tree) left) tree at) ≡ next_of (repeat no_stmt more_stmt (stmt (texts_of tree) left) n tree r.at)
@@ -41,7 +43,8 @@ pub record Going (tree : List ℕ) (left at : ℕ) (st : State) (i₀ s o : List
       ≡ emit (texts_of tree) (walk_body (texts_of tree) (body (stmt (texts_of tree) left) tree at) (context_of tree (keys_in i r.keys) s (9 - left) st.marks)).1 (written_of st.sink o)
   pub keys : body_keys (body (stmt (texts_of tree) left) tree at) (scopes_of s (9 - left)) (keys_in i₀ st.keys)
       ≡ keys_stmts (value_or no_stmt (repeat no_stmt more_stmt (stmt (texts_of tree) left) n tree r.at)) (scopes_of s' (9 - left)) (keys_in i r.keys)
-  pub walkable : Walkable tree i r.keys
+  pub indexed : Indexed i r.keys
+  pub walkable : Walkable tree (take r.keys i)
   pub index-length : length i ≡ length i₀
   pub behind : Blank r.keys r.marks
   pub entry_behind : Blank r.keys st.marks
@@ -55,7 +58,7 @@ abbrev pub beside : State → ℕ → Sink → State
 beside s at sink = record { at = at; sink = sink; keys = s.keys; marks = s.marks }
 
 -- one statement, under other names
-pub stepped_as : {tree : List ℕ} (left : ℕ) {st : State} {i s o : List ℕ} {r : State} {i' s' o' i'' s'' o'' : List ℕ} → StmtWent tree left st i s o (Some r) i' s' o' → i'' ≡ i' → s'' ≡ s' → o'' ≡ o'
+pub stepped_as : {tree : List ℕ} (left : ℕ) {st : State} {i : List KeyValue} {s o : List ℕ} {r : State} {i' : List KeyValue} {s' o' : List ℕ} {i'' : List KeyValue} {s'' o'' : List ℕ} → StmtWent tree left st i s o (Some r) i' s' o' → i'' ≡ i' → s'' ≡ s' → o'' ≡ o'
     → (x : State) (at : ℕ) (sink : Sink) → x.keys ≡ r.keys → x.marks ≡ r.marks → at ≡ r.at → sink ≡ r.sink → StmtWent tree left st i s o (Some (beside x at sink)) i'' s'' o''
 stepped_as left v a b c x at sink e f g h = rw (a, b, c, e, f, g, h) v
 
@@ -84,7 +87,7 @@ module _ (tree : List ℕ) (left n k : ℕ) (h : IsOk (repeat no_stmt more_stmt 
   whole-walk c = ap (λ w. w c) (given_is more_is _ (analyze_stmts t))
 
 -- before the first statement
-pub going_start : {tree index : List ℕ} {left : ℕ} {st : State} {s : List ℕ} → BodyAsked tree index left st s → {o : List ℕ} (n : ℕ) → n ≡ number_at 2 tree st.at
+pub going_start : {tree : List ℕ} {index : List KeyValue} {left : ℕ} {st : State} {s : List ℕ} → BodyAsked tree index left st s → {o : List ℕ} (n : ℕ) → n ≡ number_at 2 tree st.at
     → (r : State) → r.at ≡ st.at + 2 → r.sink ≡ st.sink → r.keys ≡ st.keys → r.marks ≡ st.marks → Going tree left st.at r index s o n r index s o
 going_start {tree = tree} {index = index} {left = left} {st = st} {s = s} a n e r x y k z =
     let g = body_is (stmt (texts_of tree) left) tree st.at a.accepted in
@@ -96,6 +99,7 @@ going_start {tree = tree} {index = index} {left = left} {st = st} {s = s} a n e 
       walks = rw (e, x, g);
       says = rw (e, x, g);
       keys = given_ok no_stmt _ (λ v. keys_stmts v (scopes_of s (9 - left)) (keys_in index r.keys)) (body (stmt (texts_of tree) left) tree st.at) a.accepted ∙ rw (e, x, g);
+      indexed = rw k a.indexed;
       walkable = rw k a.walkable;
       index-length = refl;
       behind = b;
@@ -107,17 +111,17 @@ going_start {tree = tree} {index = index} {left = left} {st = st} {s = s} a n e 
     }
 
 -- where one more was walked over
-pub going_next : {tree : List ℕ} {left at : ℕ} {r₀ : State} {i₀ s o : List ℕ} (n k : ℕ) {r : State} {i s' o' : List ℕ} → Going tree left at r₀ i₀ s o (n - k - 1) r i s' o' → Going tree left at r₀ i₀ s o (n - (k + 1)) r i s' o'
+pub going_next : {tree : List ℕ} {left at : ℕ} {r₀ : State} {i₀ : List KeyValue} {s o : List ℕ} (n k : ℕ) {r : State} {i : List KeyValue} {s' o' : List ℕ} → Going tree left at r₀ i₀ s o (n - k - 1) r i s' o' → Going tree left at r₀ i₀ s o (n - (k + 1)) r i s' o'
 going_next n k g = let e : n - (k + 1) ≡ n - k - 1 = omega arith in rw e g
 
-module _ {tree : List ℕ} {left at : ℕ} {r₀ : State} {i₀ s o : List ℕ} {n : ℕ} {r : State} {i s' o' : List ℕ} (g : Going tree left at r₀ i₀ s o n r i s' o') where
+module _ {tree : List ℕ} {left at : ℕ} {r₀ : State} {i₀ : List KeyValue} {s o : List ℕ} {n : ℕ} {r : State} {i : List KeyValue} {s' o' : List ℕ} (g : Going tree left at r₀ i₀ s o n r i s' o') where
   module _ (l : 0 < n) where
     -- the first of the remaining statements
     pub going_stmt : IsOk (stmt (texts_of tree) left tree r.at)
     going_stmt = repeat-first tree r.at no_stmt more_stmt (stmt (texts_of tree) left) n g.rest l
 
     pub going_asked : left ≤ 8 → StmtAsked tree i left r s'
-    going_asked d = record { walkable = g.walkable; ready = g.ready; accepted = going_stmt; shallow = d; blank = g.behind }
+    going_asked d = record { indexed = g.indexed; walkable = g.walkable; ready = g.ready; accepted = going_stmt; shallow = d; blank = g.behind }
 
     abbrev one : Stmt
     one = value_or blank_stmt (stmt (texts_of tree) left tree r.at)
@@ -131,7 +135,7 @@ module _ {tree : List ℕ} {left at : ℕ} {r₀ : State} {i₀ s o : List ℕ} 
     rest_keys m e = g.keys ∙ ap (λ b. keys_stmts b (scopes_of s' (9 - left)) (keys_in i r.keys)) (value_is (more_is tree left n r.at g.rest l m e) no_stmt)
 
     -- too many keys
-    pub going_over : {i'' s'' o'' : List ℕ} → StmtWent tree left r i s' o' None i'' s'' o'' → (st : State) → st.at ≡ at → r₀.keys ≡ st.keys → BodyWent tree left st i₀ s o None i'' s'' o''
+    pub going_over : {i'' : List KeyValue} {s'' o'' : List ℕ} → StmtWent tree left r i s' o' None i'' s'' o'' → (st : State) → st.at ≡ at → r₀.keys ≡ st.keys → BodyWent tree left st i₀ s o None i'' s'' o''
     going_over v st x y =
         let ls = stmt_keys (stmt (texts_of tree) left tree r.at) (scopes_of s' (9 - left)) (keys_in i r.keys) in
         let f : length ls ≤ length (body_keys (body (stmt (texts_of tree) left) tree at) (scopes_of s (9 - left)) (keys_in i₀ r₀.keys)) =
@@ -146,7 +150,7 @@ module _ {tree : List ℕ} {left at : ℕ} {r₀ : State} {i₀ s o : List ℕ} 
           reached = tt;
         })
 
-    module _ {r'' : State} {i'' s'' o'' : List ℕ} (v : StmtWent tree left r i s' o' (Some r'') i'' s'' o'') where
+    module _ {r'' : State} {i'' : List KeyValue} {s'' o'' : List ℕ} (v : StmtWent tree left r i s' o' (Some r'') i'' s'' o'') where
       pub going_more : Going tree left at r₀ i₀ s o (n - 1) r'' i'' s'' o''
       going_more =
           let t = texts_of tree in
@@ -154,8 +158,8 @@ module _ {tree : List ℕ} {left at : ℕ} {r₀ : State} {i₀ s o : List ℕ} 
           let added = v.grown.0 in
           let w = v.reached.0 in
           let G = longer_as (sym added) (stmt_longer (scopes_of s' (9 - left)) (keys_in i r.keys) (stmt t left tree r.at)) in
-          let mr = marks_longer G tree r.marks (blank-keys i g.behind) in
-          let ms = marks_longer G tree r₀.marks (blank-keys i g.entry_behind) in
+          let mr = marks_longer G tree r.marks (blank-keys g.indexed g.behind) in
+          let ms = marks_longer G tree r₀.marks (blank-keys g.indexed g.entry_behind) in
           let c = context_of tree (keys_in i'' r''.keys) s' (9 - left) r.marks in
           let j = more_is tree left n r.at g.rest l r''.at w.at in
           let f = first_walk tree left n r.at g.rest l r''.at w.at c in
@@ -177,10 +181,11 @@ module _ {tree : List ℕ} {left at : ℕ} {r₀ : State} {i₀ s o : List ℕ} 
                 ∙ ap (λ y. emit t y (written_of r.sink o')) (sym (ap (λ p. p.1) x))
                 ∙ rw (mr, ms) g.says;
             keys = rest_keys r''.at w.at ∙ rw (ss, added ∙ one-keys);
-            walkable = walkable_longer g.walkable (stmt_longer (scopes_of s' (9 - left)) (keys_in i r.keys) (stmt t left tree r.at)) added v.index-length few;
+            indexed = indexed_longer g.indexed v.index-length few;
+            walkable = walkable_longer _ _ _ _ g.walkable (stmt_longer (scopes_of s' (9 - left)) (keys_in i r.keys) (stmt t left tree r.at)) added few;
             index-length = v.index-length ∙ g.index-length;
             behind = v.reached.1;
-            entry_behind = blank_longer i i'' (stmt_longer (scopes_of s' (9 - left)) (keys_in i r.keys) (stmt t left tree r.at)) added g.entry_behind;
+            entry_behind = blank_longer i i'' g.indexed (stmt_longer (scopes_of s' (9 - left)) (keys_in i r.keys) (stmt t left tree r.at)) added g.entry_behind;
             ready = record { room = omega (arith, w.same_length, g.ready.room); few = w.few; placed = w.placed };
             below = λ d k. w.below d k ∙ g.below d k;
             same_length = w.same_length ∙ g.same_length;
@@ -198,7 +203,7 @@ module _ {tree : List ℕ} {left at : ℕ} {r₀ : State} {i₀ s o : List ℕ} 
       let f : body_keys (body (stmt t left) tree at) (scopes_of s (9 - left)) (keys_in i₀ r₀.keys) ≡ keys_in i r.keys = g.keys ∙ ap (λ b. keys_stmts b (scopes_of s' (9 - left)) (keys_in i r.keys)) (value_is e no_stmt) in
       rw (x, ← z)
       (record {
-        grown = (rw f refl, g.walkable.indexed.few);
+        grown = (rw f refl, g.indexed.few);
         index-length = g.index-length;
         scratch-length = g.same_length;
         scratch-rest = g.same_rest;

@@ -2,12 +2,9 @@
 use Prim.Native.Nat.{ℕ, ◌≤◌, ◌<◌}
 use mathlib.Core.Path.{◌≡◌}
 use mathlib.Core.Bool.{true, false, not, and-true, and-false, and-eq-true_iff}
-use mathlib.Core.List.{List}
 use lib.Dec.{eqb, ltb}
 use borrow.Author.Tests.{lt-ltb, le-ltb, ltb-true, ltb-false, ne_eqb, eqb-false, not-true}
-use Rattle.promises.specs.Walks.{Walkable, Ready, Passable}
 use Rattle.walk.specs.Bodies.{is_plain}
-use Rattle.context.specs.declared.State.{State}
 
 pub plain-low : (n : ℕ) → n < 12 → not (eqb n 6) ≡ is_plain n
 unfolding is_plain
@@ -34,7 +31,3 @@ plain_other n e = eqb-false n 6 (plain-parts n e).0
 pub late : (n : ℕ) → is_plain n ≡ false → (n ≡ 6 → ⊥) → 12 ≤ n
 unfolding is_plain
 late n e h = ltb-false n 12 (rw (ne_eqb n 6 h) at e)
-
--- what a statement asks that leaves the marks
-pub passable : {tree index scratch : List ℕ} {keys : ℕ} {st : State} → Walkable tree index keys → Ready tree scratch st → Passable tree scratch
-passable w r = record { small = w.small; room = r.room; few = r.few }

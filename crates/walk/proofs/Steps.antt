@@ -4,7 +4,8 @@ use mathlib.Core.Path.{◌≡◌, refl, sym, ap, subst}
 use mathlib.Core.List.{List}
 use mathlib.Core.Logic.{⊎_elim}
 use native.Mathlib.Omega.{arith}
-use lib.ListN.{length, get_or}
+use lib.ListN.{length, get_or, take}
+use Rattle.std.proofs.lemmas.List.{length-take}
 use Rattle.text.proofs.Tests.{true_of}
 use Rattle.tree.specs.Ans.{IsOk}
 use Rattle.tree.specs.Stmts.{stmt}
@@ -15,13 +16,13 @@ use Rattle.sema.specs.Keys.{has_key, keys_stmt}
 use Rattle.sema.proofs.KeyCount.{grown-stmt}
 use Rattle.sema.proofs.LawsKeys.{has_key-iff}
 use Rattle.context.specs.declared.State.{State}
-use Rattle.std.specs.Prelude.{Some, None}
+use Rattle.context.specs.declared.Key.{Key as KeyValue}
+use Rattle.std.specs.Prelude.{Some}
 use Rattle.context.specs.View.{scopes_of, keys_in}
 use Rattle.accepted.specs.Parts.{given_is}
 use Rattle.accepted.specs.Stmts as of
-use Rattle.sheet.specs.Sheet.{Grown}
-use Rattle.sheet.specs.Table.{length-keys}
-use Rattle.sema.specs.Limits.{key_limit}
+use Rattle.sheet.specs.Sheet.{Indexed, Grown}
+use Rattle.sheet.specs.Table.{keys-few}
 use Rattle.sheet.specs.Behind.{Blank}
 use Rattle.promises.specs.Walks.{state_of, Walkable, Ready, StmtKeyed, StmtWalked}
 use Rattle.promises.specs.Went.{stmt_keys, StmtWent}
@@ -51,21 +52,17 @@ plain-keys tree left at h u m o ss ks = go (get_or tree at 0) refl
 pub ready_of : {tree s : List ℕ} {st : State} → Ready tree s st → Ready tree s (state_of st.at st.sink st.marks)
 ready_of h = record { room = h.room; few = h.few; placed = h.placed }
 
-module _ (tree : List ℕ) (left : ℕ) (st : State) (i i' s : List ℕ) (z : length i' ≡ length i) where
+module _ (tree : List ℕ) (left : ℕ) (st : State) (i i' : List KeyValue) (s : List ℕ) (z : length i' ≡ length i) where
   -- the keys of the statement, behind those there are
   abbrev keys : List Key
   keys = stmt_keys (stmt (texts_of tree) left tree st.at) (scopes_of s (9 - left)) (keys_in i st.keys)
-
-  -- the walk has stopped at the statement
-  pub step-over : key_limit < length keys → {o o' : List ℕ} → StmtWent tree left st i s o None i' s o'
-  step-over a = record { grown = a; index-length = z; scratch-length = refl; scratch-rest = refl; reached = tt }
 
   module _ {count : ℕ} (a : Grown i' (Some count) keys) where
     one_longer : Longer (keys_in i st.keys) keys
     one_longer = stmt_longer (scopes_of s (9 - left)) (keys_in i st.keys) (stmt (texts_of tree) left tree st.at)
 
-    pub step-walkable : Walkable tree i st.keys → Walkable tree i' count
-    step-walkable w = walkable_longer w one_longer a.0 z a.1
+    pub step-walkable : Walkable tree (take st.keys i) → Walkable tree (take count i')
+    step-walkable w = walkable_longer _ _ _ _ w one_longer a.0 a.1
 
     -- every key that the statement sets is there
     pub step_keyed : StmtKeyed (keys_in i' count) (scopes_of s (9 - left)) (stmt (texts_of tree) left tree st.at)
@@ -76,20 +73,20 @@ module _ (tree : List ℕ) (left : ℕ) (st : State) (i i' s : List ℕ) (z : le
               true_of (has_key (keys_in i' count) k)
               ((has_key-iff (keys_in i' count) k).1
               (rw (a.0, q)
-              (⊎_elim (λ x. x) (λ l. let c = rw q at a.0 in let few = a.1 in absurd (omega (arith, ap length c, length-keys i' 0 count))) ((grown-stmt S (scopes_of s (9 - left)) (keys_in i st.keys)).all k set))));
+              (⊎_elim (λ x. x) (λ l. let c = rw q at a.0 in let few = a.1 in absurd (omega (arith, ap length c, keys-few i' count))) ((grown-stmt S (scopes_of s (9 - left)) (keys_in i st.keys)).all k set))));
         }
 
     -- the statement was walked over
-    pub step_went : (r : State) → r.keys ≡ count → Blank st.keys st.marks → {o s' o' : List ℕ} → StmtWalked tree i' count left (state_of st.at st.sink st.marks) s o (state_of r.at r.sink r.marks) s' o'
-        → ((n : ℕ) → count ≤ n → Blank n st.marks → Blank n r.marks) → StmtWent tree left st i s o (Some r) i' s' o'
-    step_went r f b {o = o} {s' = s'} {o' = o'} w p =
+    pub step_went : Indexed i st.keys → (r : State) → r.keys ≡ count → Blank st.keys st.marks → {o s' o' : List ℕ} → StmtWalked tree (keys_in i' count) left (state_of st.at st.sink st.marks) s o (state_of r.at r.sink r.marks) s' o'
+        → ((n : ℕ) → length (take count i') ≤ n → Blank n st.marks → Blank n r.marks) → StmtWent tree left st i s o (Some r) i' s' o'
+    step_went t r f b {o = o} {s' = s'} {o' = o'} w p =
         record {
           grown = rw f a;
           index-length = z;
           scratch-length = w.same_length;
           scratch-rest = w.same_rest;
           reached = (
-            subst (λ (k : ℕ). StmtWalked tree i' k left st s o r s' o') (sym f) (walked_at w st r refl refl refl refl refl),
-            rw f (p count (omega arith) (blank_longer i i' one_longer a.0 b)),
+            subst (λ (k : ℕ). StmtWalked tree (keys_in i' k) left st s o r s' o') (sym f) (walked_at w st r refl refl refl refl refl),
+            rw f (p count (omega (arith, length-take count i')) (blank_longer i i' t one_longer a.0 b)),
           );
         }

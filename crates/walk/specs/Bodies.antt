@@ -8,6 +8,7 @@ use Rattle.sema.specs.Symbols.{empty}
 use Rattle.sema.specs.Marks.{Key, after_loop}
 use Rattle.sema.specs.Stmts.{SemaContext, analyze_else}
 use Rattle.context.specs.declared.After.{After}
+use Rattle.context.specs.declared.Key.{Key as KeyValue}
 use Rattle.context.specs.declared.State.{State}
 use Rattle.context.specs.View.{Placed, keys_in, scopes_of, gates_of, context_of}
 use Rattle.sheet.specs.Behind.{Blank}
@@ -40,26 +41,27 @@ looped walk c =
     (record { symbols = w.0.symbols; gates = w.0.gates; functions = w.0.functions; measured = after_loop c.measured w.0.measured }, w.1)
 
 -- what the walk asks of the body of a loop: there is room for the span behind it
-abbrev pub LoopAsked : List ℕ → List ℕ → ℕ → State → List ℕ → Type 0
+abbrev pub LoopAsked : List ℕ → List KeyValue → ℕ → State → List ℕ → Type 0
 LoopAsked tree index left st s = BodyAsked tree index left st s × (next_of (body (stmt (texts_of tree) left) tree st.at) + 8 ≤ length tree)
 
 -- So of the body of a loop, and the span behind it, whose statements have so many levels left.
-abbrev pub LoopWalked : List ℕ → List ℕ → ℕ → ℕ → State → List ℕ → List ℕ → State → List ℕ → List ℕ → Type 0
-LoopWalked tree index keys left st s o r s' o' =
-    Walked tree (texts_of tree) (keys_in index keys) (9 - left) (looped (walk_body (texts_of tree) (body (stmt (texts_of tree) left) tree st.at)))
+abbrev pub LoopWalked : List ℕ → List Key → ℕ → State → List ℕ → List ℕ → State → List ℕ → List ℕ → Type 0
+LoopWalked tree ks left st s o r s' o' =
+    Walked tree (texts_of tree) ks (9 - left) (looped (walk_body (texts_of tree) (body (stmt (texts_of tree) left) tree st.at)))
     (next_of (body (stmt (texts_of tree) left) tree st.at) + 8) st s o r s' o'
 
 -- and so with its keys
-abbrev pub LoopWent : List ℕ → ℕ → State → List ℕ → List ℕ → List ℕ → Option State → List ℕ → List ℕ → List ℕ → Type 0
+abbrev pub LoopWent : List ℕ → ℕ → State → List KeyValue → List ℕ → List ℕ → Option State → List KeyValue → List ℕ → List ℕ → Type 0
 LoopWent tree left st i s o r i' s' o' =
-    Went i i' (body_keys (body (stmt (texts_of tree) left) tree st.at) (scopes_of s (9 - left)) (keys_in i st.keys)) s s' r (λ x. LoopWalked tree i' x.keys left st s o x s' o')
+    Went i i' (body_keys (body (stmt (texts_of tree) left) tree st.at) (scopes_of s (9 - left)) (keys_in i st.keys)) s s' r (λ x. LoopWalked tree (keys_in i' x.keys) left st s o x s' o')
 
--- what an `else` asks after a `then` body that ended in the state t, from the marks of the entry
-pub record ElseAsked (tree index : List ℕ) (left : ℕ) (entry : List ℕ) (t : State) (s : List ℕ) : Type 0 where
+-- what an `else` asks after a `then` body that ended in the state t, from the marks of the entry: there is room for the span behind it
+pub record ElseAsked (tree : List ℕ) (index : List KeyValue) (left : ℕ) (entry : List ℕ) (t : State) (s : List ℕ) : Type 0 where
   pub some : 0 < left
   pub asked : Asked (else_body (stmt (texts_of tree) (left - 1)) tree t.at) tree index left (entry_of t entry) s
   pub placed : Placed tree t.marks
   pub blank : Blank t.keys t.marks
+  pub room : next_of (else_body (stmt (texts_of tree) (left - 1)) tree t.at) + 8 ≤ length tree
 
 -- the state in which its body begins, behind its byte
 abbrev pub else_start : State → List ℕ → State
@@ -73,12 +75,12 @@ walk_else t i x = λ c. given (c, []) (λ e. analyze_else t e c i) x
 abbrev pub ElseOpened : List Text → ℕ → State → List ℕ → List ℕ → State → List ℕ → List ℕ → Type 0
 ElseOpened t left st s o r s' o' = Opened t (9 - left) empty (gates_of s) [] (st.at + 1) st s o r s' o'
 
--- an `else` after a `then` body that ended in the state t, from the marks of the entry
+-- an `else` after a `then` body that ended in the state t, from the marks of the entry, and the span behind it
 abbrev pub ElseWalked : List ℕ → List Key → ℕ → List ℕ → State → List ℕ → List ℕ → State → List ℕ → List ℕ → Type 0
 ElseWalked tree ks left entry t s o r s' o' =
     Walked tree (texts_of tree) ks (9 - left) (walk_else (texts_of tree) (context_of tree ks s (suc (9 - left)) t.marks) (else_body (stmt (texts_of tree) (left - 1)) tree t.at))
-    (next_of (else_body (stmt (texts_of tree) (left - 1)) tree t.at)) (entry_of t entry) s o r s' o'
+    (next_of (else_body (stmt (texts_of tree) (left - 1)) tree t.at) + 8) (entry_of t entry) s o r s' o'
 
-abbrev pub ElseWent : List ℕ → ℕ → List ℕ → State → List ℕ → List ℕ → List ℕ → Option State → List ℕ → List ℕ → List ℕ → Type 0
+abbrev pub ElseWent : List ℕ → ℕ → List ℕ → State → List KeyValue → List ℕ → List ℕ → Option State → List KeyValue → List ℕ → List ℕ → Type 0
 ElseWent tree left entry t i s o r i' s' o' =
     Went i i' (else_keys (else_body (stmt (texts_of tree) (left - 1)) tree t.at) (scopes_of s (9 - left)) (keys_in i t.keys)) s s' r (λ x. ElseWalked tree (keys_in i' x.keys) left entry t s o x s' o')

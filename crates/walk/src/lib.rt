@@ -7,15 +7,15 @@ ghost use Rattle.std.specs.Prelude.{◌≡◌, true, false, ℕ, ◌-◌, ◌≤
 ghost use Rattle.tree.specs.Ans.{IsOk};
 ghost use Rattle.tree.specs.Stmts.{stmt};
 ghost use Rattle.tree.specs.Decode.{texts_of};
-ghost use Rattle.context.specs.View.{keys_in, scopes_of};
-ghost use Rattle.sheet.specs.Sheet.{Grown};
+ghost use Rattle.context.specs.View.{keys_in, keys_of, scopes_of};
+ghost use Rattle.sheet.specs.Sheet.{Indexed, Grown};
 ghost use Rattle.sheet.specs.Behind.{Blank};
 ghost use Rattle.promises.specs.Walks.{state_of, Walkable, Ready, StmtKeyed, StmtWalked};
 ghost use Rattle.promises.specs.Went.{stmt_keys, StmtAsked, BodyAsked, StmtWent, BodyWent};
 ghost use Rattle.walk.specs.Bodies.{moved_to, stepped, is_plain, LoopAsked, ElseAsked, LoopWent, ElseWent};
 
 use accepted::numbers::u16_at;
-use context::{After, Index, Sink, State, Texts};
+use context::{After, Index, Key, Sink, State, Texts};
 
 // What a statement without statements in it leaves beside the marks: the place past it, the listing, how many keys there are.
 #[derive(Clone, Copy)]
@@ -70,12 +70,10 @@ fn branch(
     let a = bodies::open_if(texts, scratch, out, left, st.at, st.sink);
     let s = moved(st, a);
     let t = analyze_stmts(texts, index, scratch, out, left - 1, s)?;
-    let mut e = branch_else(texts, index, scratch, out, left, &st.marks, t)?;
-    e.at += 8;
-    Some(e)
+    branch_else(texts, index, scratch, out, left, &st.marks, t)
 }
 
-// The `else` of an `if`, from the entry marks; t is the state after the `then` body. Both exits are united.
+// The `else` of an `if`, from the entry marks, and the span behind it; t is the state after the `then` body. Both exits are united.
 #[cycle(stmts)]
 fn branch_else(
     texts: Texts<'_>,
@@ -93,7 +91,7 @@ fn branch_else(
     let mut then = t;
     if texts.tree[k] == 0 {
         sheet::unite(entry, &mut then.marks);
-        then.at = k + 1;
+        then.at = k + 9;
         return Some(then);
     }
     tables::enter(scratch, 9 - left);
@@ -107,6 +105,7 @@ fn branch_else(
     };
     let mut e = analyze_stmts(texts, index, scratch, out, left - 1, inner)?;
     sheet::unite(&then.marks, &mut e.marks);
+    e.at += 8;
     Some(e)
 }
 
@@ -173,22 +172,21 @@ fn is_plain(case: u8) -> bool
     false
 }
 
-// A statement without statements in it, whose keys are in the index.
+// A statement without statements in it, whose keys are there.
 fn plain_stmt(
     texts: Texts<'_>,
-    index: &Index,
+    keys: &[Key],
     scratch: &mut [u8],
     out: &mut [u8],
-    keys: usize,
     left: usize,
     marks: &mut [u16; 256],
     at: usize,
     sink: Sink,
 ) -> After
-    requires walkable { Walkable texts.tree.now index.now keys × Ready texts.tree.now scratch.old (state_of at sink marks.old) × IsOk (stmt (texts_of texts.tree.now) left texts.tree.now at) × (left ≤ 8) × (is_plain (get_or texts.tree.now at 0) ≡ true) }
-    requires stmt_keyed { StmtKeyed (keys_in index.now keys) (scopes_of scratch.old (9 - left)) (stmt (texts_of texts.tree.now) left texts.tree.now at) }
-    ensures walked { StmtWalked texts.entry.tree.now index.now keys left (state_of at sink marks.old) scratch.old out.old (state_of result.next result.sink marks.new) scratch.new out.new }
-    ensures behind { (n : ℕ) → keys ≤ n → Blank n marks.old → Blank n marks.new }
+    requires walkable { Walkable texts.tree.now keys.now × Ready texts.tree.now scratch.old (state_of at sink marks.old) × IsOk (stmt (texts_of texts.tree.now) left texts.tree.now at) × (left ≤ 8) × (is_plain (get_or texts.tree.now at 0) ≡ true) }
+    requires stmt_keyed { StmtKeyed (keys_of keys.now) (scopes_of scratch.old (9 - left)) (stmt (texts_of texts.tree.now) left texts.tree.now at) }
+    ensures walked { StmtWalked texts.entry.tree.now (keys_of keys.now) left (state_of at sink marks.old) scratch.old out.old (state_of result.next result.sink marks.new) scratch.new out.new }
+    ensures behind { (n : ℕ) → length keys.now ≤ n → Blank n marks.old → Blank n marks.new }
 {
     match texts.tree[at] {
         0 => operations::include(texts.tree, scratch, out, left, at, sink),
@@ -196,12 +194,12 @@ fn plain_stmt(
         2 => declarations::bit_decl(texts, scratch, out, left, at, sink),
         3 => declarations::classical_decl(texts, scratch, out, left, at, sink),
         4 => declarations::assignment(texts, scratch, out, left, at, sink),
-        5 => operations::gate_call(texts, index, scratch, out, keys, left, marks, at, sink),
+        5 => operations::gate_call(texts, keys, scratch, out, left, marks, at, sink),
         7 => declarations::function_def(texts, scratch, out, left, at, sink),
-        8 => operations::measure(texts, index, scratch, out, keys, left, marks, at, sink),
-        9 => operations::reset(texts, index, scratch, out, keys, left, marks, at, sink),
-        10 => operations::barrier(texts, index, scratch, out, keys, left, marks, at, sink),
-        _ => operations::delay(texts, index, scratch, out, keys, left, marks, at, sink),
+        8 => operations::measure(texts, keys, scratch, out, left, marks, at, sink),
+        9 => operations::reset(texts, keys, scratch, out, left, marks, at, sink),
+        10 => operations::barrier(texts, keys, scratch, out, left, marks, at, sink),
+        _ => operations::delay(texts, keys, scratch, out, left, marks, at, sink),
     }
 }
 
@@ -214,7 +212,7 @@ fn keys_with(
     left: usize,
     at: usize,
 ) -> Option<usize>
-    requires { Walkable texts.tree.now index.old keys × (65536 ≤ length scratch.now) × IsOk (stmt (texts_of texts.tree.now) left texts.tree.now at) × (left ≤ 8) × (is_plain (get_or texts.tree.now at 0) ≡ true) }
+    requires { Indexed index.old keys × (65536 ≤ length scratch.now) × IsOk (stmt (texts_of texts.tree.now) left texts.tree.now at) × (left ≤ 8) × (is_plain (get_or texts.tree.now at 0) ≡ true) }
     ensures added { Grown index.new result (stmt_keys (stmt (texts_of texts.entry.tree.now) left texts.entry.tree.now at) (scopes_of scratch.now (9 - left)) (keys_in index.old keys)) }
     ensures index { length index.new ≡ length index.old }
 {
@@ -240,7 +238,7 @@ fn keyed_stmt(
     ensures { StmtWent texts.entry.tree.now left (record { at = at; sink = sink; keys = keys; marks = marks.old }) index.old scratch.old out.old (stepped result marks.new) index.new scratch.new out.new }
 {
     let count = keys_with(texts, index, scratch, keys, left, at)?;
-    let a = plain_stmt(texts, index, scratch, out, count, left, marks, at, sink);
+    let a = plain_stmt(texts, &index[..count], scratch, out, left, marks, at, sink);
     let said = a.sink;
     Some(Step {
         next: a.next,

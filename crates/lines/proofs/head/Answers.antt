@@ -1,6 +1,5 @@
-use Rattle.lines.specs.Texts.{head_text}
+use Rattle.lines.proofs.Lines.{head-said}
 use Rattle.lines.proofs.head.Goals as goal
 
 pub returns : goal.returns
-unfolding head_text
-returns c = rw (c.from.ensures, c.from-2.ensures) at c.numbers.ensures
+returns c = head-said c.args.span c.from.ensures c.from-2.ensures c.put-a.ensures c.put-b.ensures c.numbers.ensures

@@ -5,4 +5,4 @@ pub returns-in_default : goal.returns-in_default
 returns-in_default c = no-note _ c.in_default.is
 
 pub returns : goal.returns
-returns c = note-line _ c.in-Some.is c.head-a.ensures c.store_note-b.ensures c.copy.ensures
+returns c = note-line _ c.in-Some.is c.head-a.ensures c.store_note-b.ensures c.put.ensures

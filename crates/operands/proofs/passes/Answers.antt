@@ -8,11 +8,6 @@ is_quiet-requires c =
     let l = operand_below _ _ _ c.single_at-op.result c.single_at-op.ensures in
     omega (arith, c.args.m.sema.texts.placed.few)
 
-pub lookup-requires-clause-x_bound : goal.lookup-requires-clause-x_bound
-lookup-requires-clause-x_bound c =
-    let l = operand_below _ _ _ c.single_at-op.result c.single_at-op.ensures in
-    omega (arith, c.args.m.sema.texts.placed.few)
-
 pub returns-then-is_quiet : goal.returns-then-is_quiet
 returns-then-is_quiet c = search pass_quiet
 

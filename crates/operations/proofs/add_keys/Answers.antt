@@ -1,5 +1,4 @@
 use native.Mathlib.Omega.{arith}
-use Rattle.accepted.specs.Bodies.{stmt_in}
 use Rattle.accepted.specs.Operands.{operand_below}
 use Rattle.accepted.specs.Stmts.{measure-qubit}
 use Rattle.operations.proofs.Measured.{measured-keys}
@@ -10,9 +9,6 @@ operand_at-requires c = let p = c.requires in measure-qubit _ _ _ _ p.0 p.5
 
 pub size_of-size-requires : goal.size_of-size-requires
 size_of-size-requires c = let i = operand_below _ _ _ c.operand_at.result.value c.operand_at.ensures in (c.requires.3, omega arith, omega arith)
-
-pub add_measured-requires-clause-name_bound : goal.add_measured-requires-clause-name_bound
-add_measured-requires-clause-name_bound c = let o = c.operand_at in let i = operand_below _ _ _ o.result.value o.ensures in omega arith
 
 pub returns-clause-added : goal.returns-clause-added
 returns-clause-added c = let p = c.requires in

@@ -1,8 +1,7 @@
-use Rattle.accepted.specs.Stmts.{gate_call-named, gate_call-modifiers}
+use Rattle.accepted.specs.Stmts.{gate_call-modifiers}
 use Rattle.promises.specs.Walks.{state_of}
 use Rattle.operations.proofs.Called.{call-name, call-params, call-args, call_in, call-walked}
 use native.Mathlib.Omega.{arith}
-use Rattle.std.proofs.Common.{rules}
 use Rattle.operations.proofs.gate_call.Goals as goal
 
 pub check_signature-named-requires : goal.check_signature-named-requires
@@ -18,4 +17,4 @@ pub overflow_add-result : goal.overflow_add-result
 overflow_add-result c = let p = c.requires in let a = c.call_at-call in let i = call_in _ _ _ p.2 p.4 a.result a.ensures in omega arith
 
 pub returns : goal.returns
-returns c = let s = c in let p = s.requires in let a = c.call_at-call in call-walked _ _ _ _ (state_of s.args.at s.args.sink _) p.2 p.4 a.result a.ensures p.1 c.check_signature-named.ensures c.check_values-checked.ensures c.check_args-said.ensures
+returns c = let s = c in let p = s.requires in let a = c.call_at-call in call-walked _ _ _ (state_of s.args.at s.args.sink _) p.2 p.4 a.result a.ensures p.1 c.check_signature-named.ensures c.check_values-checked.ensures c.check_args-said.ensures

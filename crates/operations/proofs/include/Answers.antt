@@ -9,4 +9,4 @@ pub overflow_add-result : goal.overflow_add-result
 overflow_add-result c = let i = include-inside _ _ _ _ c.requires.1 c.requires.3 in omega arith
 
 pub returns : goal.returns
-returns c = λ index keys marks placed. include-walked _ _ keys _ (state_of _ _ marks) c.requires.1 (passed-ready c.requires.0 placed) c.requires.3
+returns c = λ ks marks placed. include-walked _ ks _ (state_of _ _ marks) c.requires.1 (passed-ready c.requires.0 placed) c.requires.3

@@ -1,6 +1,5 @@
 use Rattle.std.proofs.Common.{rules}
-use Rattle.context.specs.Values.{operand_of}
-use Rattle.sheet.specs.Sheet.{key_of}
+use Rattle.context.specs.Values.{operand_of, key_of}
 use Rattle.sheet.proofs.Tests.{cleared_by, reached-cleared}
 use Rattle.sheet.proofs.Sheets.{clear-placed, clear-marks, store-behind}
 use Rattle.sheet.proofs.clear.Goals as goal

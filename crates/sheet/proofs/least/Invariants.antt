@@ -2,4 +2,4 @@ use Rattle.sheet.proofs.Loops.{Comparing}
 use Rattle.sheet.proofs.least.Given as goal
 
 abbrev pub invariant-loop-k : goal.invariant-loop-k
-invariant-loop-k l = Comparing l.index l.count l.x l.a l.b l.sheet l.best l.k
+invariant-loop-k l = Comparing l.keys l.x l.a l.b l.sheet l.best l.k

@@ -1,6 +1,5 @@
 use Rattle.std.proofs.Common.{rules}
-use Rattle.context.specs.Values.{number_of, operand_of}
-use Rattle.sheet.specs.Sheet.{key_of}
+use Rattle.context.specs.Values.{number_of, operand_of, key_of}
 use Rattle.sheet.proofs.Tests.{set_by, reached-set}
 use Rattle.sheet.proofs.Sheets.{store-placed, set-marks, store-behind}
 use Rattle.sheet.proofs.set.Goals as goal

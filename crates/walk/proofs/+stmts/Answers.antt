@@ -7,8 +7,8 @@ use Rattle.walk.proofs.Plain.{late}
 use Rattle.walk.proofs.Loop.{stepped_as, going_asked, going_start, going_stmt, going_over, going_more, going_next, going_end}
 use Rattle.walk.proofs.Enclosed.{opened_moved}
 use Rattle.walk.proofs.Held.{looped_went}
-use Rattle.walk.proofs.Cases.{gate-below, gate-room, gate-over, gate_went, for_below, for_went, while-below, while_went, none_went, some_below, some-over, some_went}
-use Rattle.walk.proofs.Branches.{then-below, then-over, else_below, else_over, if-room, if_went}
+use Rattle.walk.proofs.Cases.{gate-below, gate-room, gate-over, gate_went, for_below, for_went, while-below, while_went, none_went, some_below, some-over, some-room, some_went}
+use Rattle.walk.proofs.Branches.{then-below, then-over, else_below, if_went}
 use Rattle.walk.proofs.+stmts.Goals as goal
 use Rattle.walk.proofs.+stmts.Goals.{analyze_stmts-then-is_plain+in_ok-a, analyze_stmts-else-is_plain+in_ok-s}
 
@@ -96,18 +96,8 @@ branch-returns-in_err-t t c = rw c.from_residual.ensures (then-over c.requires.0
 pub branch-branch_else-requires : goal.branch-branch_else-requires
 branch-branch_else-requires t c = else_below c.requires.0 c.requires.1 (opened_moved c.args.st _ c.open_if-a.ensures _ c.moved-s.ensures) c.in_ok-t.ensures c.decreases
 
-pub branch-returns-in_err-e : goal.branch-returns-in_err-e
-branch-returns-in_err-e t c =
-    rw c.from_residual-in_err-e.ensures
-    (else_over c.requires.0 c.requires.1 (opened_moved c.args.st _ c.open_if-a.ensures _ c.moved-s.ensures) c.in_ok-t.ensures c.in_err-e.ensures)
-
-pub branch-overflow_add-e : goal.branch-overflow_add-e
-branch-overflow_add-e t c =
-    omega (arith, if-room c.requires.0 c.requires.1 (opened_moved c.args.st _ c.open_if-a.ensures _ c.moved-s.ensures) c.in_ok-t.ensures c.in_ok-e.ensures, c.requires.0.walkable.small)
-
 pub branch-returns : goal.branch-returns
-branch-returns t c =
-    if_went c.requires.0 c.requires.1 (opened_moved c.args.st _ c.open_if-a.ensures _ c.moved-s.ensures) c.in_ok-t.ensures c.in_ok-e.ensures _ refl refl refl refl
+branch-returns t c = if_went c.requires.0 c.requires.1 (opened_moved c.args.st _ c.open_if-a.ensures _ c.moved-s.ensures) c.in_ok-t.ensures _ c.branch_else.ensures
 
 -- its `else`
 pub branch_else-bounds-texts-k : goal.branch_else-bounds-texts-k
@@ -125,6 +115,9 @@ branch_else-analyze_stmts-requires t c = some_below c.requires c.if-texts-k-eq0.
 
 pub branch_else-returns-in_err-e : goal.branch_else-returns-in_err-e
 branch_else-returns-in_err-e t c = rw c.from_residual.ensures (some-over c.requires c.if-texts-k-eq0.false c.enter.ensures c.in_err-e.ensures)
+
+pub branch_else-overflow_add-e : goal.branch_else-overflow_add-e
+branch_else-overflow_add-e t c = omega (arith, some-room c.requires c.if-texts-k-eq0.false c.enter.ensures c.in_ok-e.ensures, c.requires.asked.walkable.small)
 
 pub branch_else-returns : goal.branch_else-returns
 branch_else-returns t c =

@@ -22,4 +22,4 @@ returns c =
     let a = c.args in
     let k = c.in_ok-count.ensures in
     let w = c.plain_stmt-a.ensures in
-    step_went _ _ (record { at = a.at; sink = a.sink; keys = a.keys; marks = a.marks.now }) _ _ _ k.index k.added _ refl c.requires.0.blank w.walked w.behind
+    step_went _ _ (record { at = a.at; sink = a.sink; keys = a.keys; marks = a.marks.now }) _ _ _ k.index k.added c.requires.0.indexed _ refl c.requires.0.blank w.walked w.behind

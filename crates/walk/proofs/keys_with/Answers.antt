@@ -10,4 +10,4 @@ bounds-texts-at c = stmt_in _ _ _ _ c.requires.2
 pub returns-clause-added : goal.returns-clause-added
 returns-clause-added c =
     let p = c.requires in
-    rw (plain-keys _ _ _ p.2 (plain-below _ p.4) (plain_other _ p.4) c.if-texts-at-eq8.false _ _) (refl, p.0.indexed.few)
+    rw (plain-keys _ _ _ p.2 (plain-below _ p.4) (plain_other _ p.4) c.if-texts-at-eq8.false _ _) (refl, p.0.few)

@@ -13,19 +13,19 @@ delay-requires c =
     (p.0, p.1, p.2, p.3, last-case 11 _ (((((r.0.0.0.0, plain_other _ p.4), r.0.0.0.1), r.0.0.1), r.0.1), r.1) (plain-below _ p.4))
 
 pub returns-in-0-clause-walked : goal.returns-in-0-clause-walked
-returns-in-0-clause-walked c = c.include.ensures _ _ _ c.requires.walkable.1.placed
+returns-in-0-clause-walked c = c.include.ensures _ _ c.requires.walkable.1.placed
 
 pub returns-in-1-clause-walked : goal.returns-in-1-clause-walked
-returns-in-1-clause-walked c = c.qubit_decl.ensures _ _ _ c.requires.walkable.1.placed
+returns-in-1-clause-walked c = c.qubit_decl.ensures _ _ c.requires.walkable.1.placed
 
 pub returns-in-2-clause-walked : goal.returns-in-2-clause-walked
-returns-in-2-clause-walked c = c.bit_decl.ensures _ _ _ c.requires.walkable.1.placed
+returns-in-2-clause-walked c = c.bit_decl.ensures _ _ c.requires.walkable.1.placed
 
 pub returns-in-3-clause-walked : goal.returns-in-3-clause-walked
-returns-in-3-clause-walked c = c.classical_decl.ensures _ _ _ c.requires.walkable.1.placed
+returns-in-3-clause-walked c = c.classical_decl.ensures _ _ c.requires.walkable.1.placed
 
 pub returns-in-4-clause-walked : goal.returns-in-4-clause-walked
-returns-in-4-clause-walked c = c.assignment.ensures _ _ _ c.requires.walkable.1.placed
+returns-in-4-clause-walked c = c.assignment.ensures _ _ c.requires.walkable.1.placed
 
 pub returns-in-7-clause-walked : goal.returns-in-7-clause-walked
-returns-in-7-clause-walked c = c.function_def.ensures _ _ _ c.requires.walkable.1.placed
+returns-in-7-clause-walked c = c.function_def.ensures _ _ c.requires.walkable.1.placed

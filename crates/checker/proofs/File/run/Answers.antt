@@ -8,7 +8,8 @@ analyze_stmts-requires c =
     let file = c.args.self in
     let blank = c.blank-marks.ensures in
     record {
-      walkable = program-walkable _ _ file.accepted refl;
+      indexed = record { size = refl; few = omega arith };
+      walkable = program-walkable _ file.accepted;
       ready = ready-new _ _ c.begin.ensures c.requires.0 (blank.placed _);
       accepted = program-body _ file.accepted _ file.begins;
       shallow = omega arith;

@@ -1,15 +1,15 @@
 use Rattle.std.proofs.Common.{refl, arith}
 use Rattle.sema.specs.Messages.{note_parts}
-use Rattle.lines.proofs.Lines.{note-said}
+use Rattle.lines.proofs.Lines.{note-said, said-all}
 use Rattle.lines.proofs.messages.store_note.Goals as goal
 
 pub returns-in-FirstDeclared : goal.returns-in-FirstDeclared
 unfolding note_parts
-returns-in-FirstDeclared c = note-said _ c.in-FirstDeclared.is c.say.ensures refl (omega arith)
+returns-in-FirstDeclared c = note-said _ c.in-FirstDeclared.is c.named.ensures refl (omega arith)
 
 pub returns-in-DeclaredAs : goal.returns-in-DeclaredAs
 unfolding note_parts
-returns-in-DeclaredAs c = note-said _ c.in-DeclaredAs.is c.say-in-DeclaredAs.ensures refl (omega arith)
+returns-in-DeclaredAs c = note-said _ c.in-DeclaredAs.is c.say.ensures refl (omega arith)
 
 pub returns-in-DeclaredWithSize : goal.returns-in-DeclaredWithSize
 unfolding note_parts
@@ -17,24 +17,24 @@ returns-in-DeclaredWithSize c = note-said _ c.in-DeclaredWithSize.is c.say-in-De
 
 pub returns-in-DeclaredWithoutSize : goal.returns-in-DeclaredWithoutSize
 unfolding note_parts
-returns-in-DeclaredWithoutSize c = note-said _ c.in-DeclaredWithoutSize.is c.say-in-DeclaredWithoutSize.ensures refl (omega arith)
+returns-in-DeclaredWithoutSize c = note-said _ c.in-DeclaredWithoutSize.is c.named-in-DeclaredWithoutSize.ensures refl (omega arith)
 
 pub returns-in-MeasuredHere : goal.returns-in-MeasuredHere
 unfolding note_parts
-returns-in-MeasuredHere c = note-said _ c.in-MeasuredHere.is c.say-in-MeasuredHere.ensures refl (omega arith)
+returns-in-MeasuredHere c = note-said _ c.in-MeasuredHere.is (said-all c.copy.ensures) refl (omega arith)
 
 pub returns-in-DefinedHere : goal.returns-in-DefinedHere
 unfolding note_parts
-returns-in-DefinedHere c = note-said _ c.in-DefinedHere.is c.say-in-DefinedHere.ensures refl (omega arith)
+returns-in-DefinedHere c = note-said _ c.in-DefinedHere.is c.named-in-DefinedHere.ensures refl (omega arith)
 
 pub returns-in-FirstDefined : goal.returns-in-FirstDefined
 unfolding note_parts
-returns-in-FirstDefined c = note-said _ c.in-FirstDefined.is c.say-in-FirstDefined.ensures refl (omega arith)
+returns-in-FirstDefined c = note-said _ c.in-FirstDefined.is (said-all c.copy-in-FirstDefined.ensures) refl (omega arith)
 
 pub returns-in-TargetDeclared : goal.returns-in-TargetDeclared
 unfolding note_parts
-returns-in-TargetDeclared c = note-said _ c.in-TargetDeclared.is c.say-in-TargetDeclared.ensures refl (omega arith)
+returns-in-TargetDeclared c = note-said _ c.in-TargetDeclared.is (said-all c.copy-in-TargetDeclared.ensures) refl (omega arith)
 
 pub returns-in-FunctionDefined : goal.returns-in-FunctionDefined
 unfolding note_parts
-returns-in-FunctionDefined c = note-said _ c.in-FunctionDefined.is c.say-in-FunctionDefined.ensures refl (omega arith)
+returns-in-FunctionDefined c = note-said _ c.in-FunctionDefined.is (said-all c.copy-in-FunctionDefined.ensures) refl (omega arith)

@@ -1,5 +1,4 @@
 use Rattle.operations.proofs.Arity.{undefined, defined, defined-fits}
-use native.Mathlib.Omega.{arith}
 use Rattle.operations.proofs.calls.check_signature.Goals as goal
 
 pub returns-in_default : goal.returns-in_default

@@ -1,5 +1,4 @@
 use Rattle.operations.proofs.Measured.{measure-said}
-use native.Mathlib.Omega.{arith}
 use Rattle.operations.proofs.measures.check_measure.Goals as goal
 
 pub returns : goal.returns

@@ -1,5 +1,4 @@
 use Rattle.operations.proofs.Measured.{measured-first, measured-again}
-use native.Mathlib.Omega.{arith}
 use Rattle.operations.proofs.measures.warn_measured.Goals as goal
 
 pub returns-then-lookup-eq0 : goal.returns-then-lookup-eq0

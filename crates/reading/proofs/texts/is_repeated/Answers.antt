@@ -2,8 +2,8 @@ use Rattle.std.proofs.Common.{◌∙◌, sym}
 use Rattle.reading.proofs.Repeated.{not_repeated, looking-within, looking-sum, looking-here, looking-more}
 use Rattle.reading.proofs.texts.is_repeated.Goals as goal
 
-pub returns-then-not-contains : goal.returns-then-not-contains
-returns-then-not-contains c = not_repeated _ _ _ _ _ c.requires.sums_value c.requires.sum_value (sym c.contains.ensures.value ∙ c.if-not-contains.true)
+pub returns-then-not-has_sum : goal.returns-then-not-has_sum
+returns-then-not-has_sum c = not_repeated _ _ _ _ _ c.requires.sums_value c.requires.sum_value (sym c.has_sum.ensures ∙ c.if-not-has_sum.true)
 
 pub is_text-requires-clause-at_in_bounds : goal.is_text-requires-clause-at_in_bounds
 is_text-requires-clause-at_in_bounds c = looking-within _ _ _ _ _ c.loop-other.invariant c.loop-other-test.true

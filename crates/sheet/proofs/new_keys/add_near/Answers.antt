@@ -1,6 +1,5 @@
 use Rattle.sheet.proofs.Adding.{added-near}
-use Rattle.sheet.proofs.Tests.{same-decoded}
 use Rattle.sheet.proofs.new_keys.add_near.Goals as goal
 
 pub returns-then-eq-clause-added : goal.returns-then-eq-clause-added
-returns-then-eq-clause-added c = added-near _ _ _ _ _ c.requires.indexed c.if-near-count.true (same-decoded _ _ _ _ c.eq.ensures c.at.ensures) c.if-eq.true
+returns-then-eq-clause-added c = added-near _ _ _ _ _ c.requires.indexed c.if-near-count.true c.eq.ensures c.if-eq.true

@@ -6,7 +6,7 @@ pub loop-j-init : goal.loop-j-init
 loop-j-init c = search adding-start
 
 pub overflow_add-first : goal.overflow_add-first
-overflow_add-first c = let i = c.loop-j.invariant in omega (arith, near-small _ _ _ _ _ _ _ c.find.ensures c.unwrap_or-first.ensures c.requires.indexed.few i.within i.most)
+overflow_add-first c = let i = c.loop-j.invariant in omega (arith, near-small _ _ _ _ _ _ _ _ c.find.ensures c.unwrap_or-first.ensures c.requires.indexed.few i.within i.most)
 
 pub returns-in_err-c : goal.returns-in_err-c
 returns-in_err-c c = search (adding-over, rules)
