@@ -115,6 +115,7 @@ pub fn skip_modifier(s: &[u8], at: usize) -> usize
     requires { IsOk (modifier (texts_of s.now) s.now at) }
     ensures { result ≡ next_of (modifier (texts_of s.now) s.now at) }
 {
+    // By the case byte: an enum with a conversion would say each case twice.
     match s[at] {
         2 => at + 9,
         3 => skip_expr(s, at + 1, 32) + 8,

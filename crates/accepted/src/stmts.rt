@@ -19,6 +19,7 @@ fn skip_stmt(s: &[u8], at: usize, left: usize) -> usize
     ensures { result ≡ next_of (stmt (texts_of s.now) left s.now at) }
 {
     let s = &s[..]; // as in skip_expr: loaded one by one
+    // By the case byte: an enum with a conversion would say each case twice.
     match s[at] {
         0 => at + 11,
         1 | 2 => skip_number(s, at + 3) + 8,
@@ -81,6 +82,7 @@ fn body_place(s: &[u8], at: usize, left: usize) -> usize
     requires { IsOk (stmt (texts_of s.now) left s.now at) × Compound (get_or s.now at 0) }
     ensures { result ≡ body_place (texts_of s.now) s.now at }
 {
+    // By the case byte: an enum with a conversion would say each case twice.
     match s[at] {
         6 => {
             let k = skip_names(s, at + 3);

@@ -1,12 +1,11 @@
 // Before the body of a `for`.
-ghost use Rattle.std.specs.Prelude.{◌≡◌, [], ◌≤◌, length, get_or};
+ghost use Rattle.std.specs.Prelude.{◌≡◌, [], get_or};
 ghost use Rattle.tree.specs.Ans.{IsOk, given};
 ghost use Rattle.tree.specs.Read.{option};
 ghost use Rattle.tree.specs.Stmts.{stmt, held, for_range};
 ghost use Rattle.tree.specs.Decode.{texts_of};
 ghost use Rattle.sema.specs.Stmts.{step_says};
 ghost use Rattle.context.specs.Given.{texts, scopes, functions};
-ghost use Rattle.context.specs.View.{scopes_of, functions_of};
 ghost use Rattle.promises.specs.Emitted.{Emitted};
 ghost use Rattle.promises.specs.Typings.{plain_context};
 ghost use Rattle.bodies.specs.Parts.{ForPartsOf, variable_says, bounds_say};

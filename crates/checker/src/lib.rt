@@ -17,7 +17,7 @@ use context::{Index, Key, Places, Sink, State, Texts};
 use refusal::{Refusal, Refused};
 use verdict::Answer;
 
-// Lines of so many bytes need one walk.
+// Lines of so many bytes need one walk. Fixed memory: there is no Vec.
 const STAGE: usize = 8192;
 
 // A file that was accepted, and the place of its statements.

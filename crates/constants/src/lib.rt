@@ -23,6 +23,7 @@ use int128::Int128;
 fn bin_op(case: u8) -> BinOp
     ensures { result ≡ bin_op_of case }
 {
+    // An accepted byte, total: TryFrom would add an error that no accepted byte gives.
     match case {
         1 => BinOp::Sub,
         2 => BinOp::Mul,
@@ -64,6 +65,7 @@ pub fn eval_const_int(tree: &[u8], at: usize, left: usize) -> Past<Option<Int128
     requires { IsOk (expr (texts_of tree.now) left tree.now at) }
     ensures { ValueOf (expr (texts_of tree.now) left tree.now at) result }
 {
+    // By the case byte: an enum with a conversion would say each case twice.
     match tree[at] {
         0 => Past {
             value: Some(Int128::from_u64(u64_at(tree, at + 1))),

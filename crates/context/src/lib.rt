@@ -16,7 +16,7 @@ use span::Span;
 pub use texts::Texts;
 
 // The places of the texts of a tree.
-pub type Places = [u64; 256];
+pub type Places = [usize; 256];
 
 // What a mark is kept for: a name, or a name with an index.
 #[derive(Clone, Copy, PartialEq)]
@@ -25,7 +25,7 @@ pub struct Key {
     pub index: Option<u64>,
 }
 
-// The keys that a walk has met, and others behind them.
+// The keys that a walk has met, and others behind them. Fixed memory: there is no Vec.
 pub type Index = [Key; 256];
 
 // A value that was read, and the place past it.

@@ -38,6 +38,7 @@ pub fn assign_op_at(tree: &[u8], at: usize) -> AssignOp
     requires { at < length tree.now }
     ensures { result ≡ assign_op_of (get_or tree.now at 0) }
 {
+    // An accepted byte, total: TryFrom would add an error that no accepted byte gives.
     match tree[at] {
         1 => AssignOp::AddAssign,
         2 => AssignOp::SubAssign,

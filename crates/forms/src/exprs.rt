@@ -179,6 +179,7 @@ fn read_expr(source: &Source, at: usize, left: usize) -> Read<()>
     if left == 0 {
         return refuse(Refusal::TooDeep, at);
     }
+    // By the case byte: an enum with a conversion would say each case twice.
     match b {
         0 => read_int_lit(s, k),
         1 => read_float_lit(source, k),

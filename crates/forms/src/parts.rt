@@ -88,6 +88,7 @@ fn read_modifier(source: &Source, at: usize) -> Read<()>
     let Read::At(b, k) = a else {
         return a.into_place();
     };
+    // By the case byte: an enum with a conversion would say each case twice.
     match b {
         0 | 1 => read_ctrl(source, k),
         2 => pass_span(source.bytes, k),

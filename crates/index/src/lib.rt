@@ -10,15 +10,14 @@ ghost use Rattle.context.specs.View.{TextsAt};
 use accepted::numbers::u16_at;
 
 // The places of the texts' length bytes, and the place past the texts.
-pub fn place_texts(tree: &[u8], places: &mut [u64]) -> usize
+pub fn place_texts(tree: &[u8], places: &mut [usize]) -> usize
     requires { IsOk (decode tree.now) × (length places.old ≡ 256) }
     ensures { (result ≡ next_of (texts tree.now 0)) × TextsAt tree.now places.new }
 {
     let n = u16_at(tree, 0);
     let mut at = 2;
     for place in &mut places[..n] {
-        // std has no From<usize> for u64.
-        *place = at as u64;
+        *place = at;
         at += 1 + usize::from(tree[at]);
     }
     at

@@ -2,7 +2,6 @@
 #![tactic(auto)]
 
 ghost use Rattle.std.specs.Prelude.{◌≡◌, not, ◌≤◌, ◌<◌, ◌+◌, ◌-◌, ◌*◌, ◌/◌, ◌%◌, ◌^◌, neg_ℤ, ◌+ℤ◌, ◌-ℤ◌, ◌*ℤ◌, false};
-ghost use Rattle.std.specs.Bool.{xor};
 ghost use Rattle.int128.specs.Whole.{magnitude, magnitude_of, signed, value_of, int128, checked, divided, powered, positive, word_of};
 
 #[derive(Clone, Copy)]

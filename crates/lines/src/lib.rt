@@ -5,14 +5,14 @@ mod messages;
 pub mod pieces;
 mod words;
 
-ghost use Rattle.std.specs.Prelude.{◌≡◌, ℕ, List, ◌≤◌, ◌<◌, ◌+◌, ◌++◌, ◌∷◌, [], length};
+ghost use Rattle.std.specs.Prelude.{◌≡◌, ℕ, List, ◌≤◌, ◌<◌, ◌+◌, ◌∷◌, [], length};
 ghost use Rattle.text.specs.Text.{text};
 ghost use Rattle.text.specs.Decimal.{decimal};
 ghost use Rattle.tree.specs.Decode.{texts_of};
 ghost use Rattle.context.specs.Sink.{written_of};
 ghost use Rattle.listing.specs.Listing.{ended, spaced, letter, note_lines, diagnostic_line};
 ghost use Rattle.lines.specs.Values.{severity_of, diagnostic_of, secondary_of, name_in, Below, NoteBelow, Fits, counted_of, error_of, error_with_note_of, warning_of, Reported};
-ghost use Rattle.lines.specs.Stored.{Wrote, Said, Shown};
+ghost use Rattle.lines.specs.Stored.{Wrote, Said};
 ghost use Rattle.lines.specs.Texts.{head_text};
 
 use ast::ClassicalType;

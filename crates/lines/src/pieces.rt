@@ -1,5 +1,5 @@
 // The pieces of lines, and their storing.
-ghost use Rattle.std.specs.Prelude.{◌≡◌, ◌≤◌, ◌<◌, ◌+◌, ◌++◌, ◌∷◌, [], length};
+ghost use Rattle.std.specs.Prelude.{◌≡◌, ◌<◌, ◌+◌, ◌++◌, ◌∷◌, [], length};
 ghost use Rattle.std.specs.List.{All};
 ghost use Rattle.text.specs.Decimal.{decimal};
 ghost use Rattle.tree.specs.Decode.{texts_of};
@@ -33,8 +33,7 @@ pub fn name_of<'a>(tree: &'a [u8], places: &Places, x: usize) -> &'a [u8]
     requires { Readable tree.now places.now x }
     ensures { Shown result.now (name_at (texts_of tree.now) x) 64 }
 {
-    // A place of the tree: TryFrom would add an error that no place gives.
-    let at = places[x] as usize;
+    let at = places[x];
     let size = usize::from(tree[at]);
     &tree[at + 1..at + 1 + size]
 }

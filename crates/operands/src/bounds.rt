@@ -1,6 +1,5 @@
 // What is said of an operand whose name is declared: its kind, its index, its slice.
 ghost use Rattle.std.specs.Prelude.{◌≡◌, ◌<◌, length};
-ghost use Rattle.tree.specs.Decode.{texts_of};
 ghost use Rattle.sema.specs.Operands.{index_says, slice_says, bounds_say};
 ghost use Rattle.context.specs.Values.{number_of, ends_of, operand_of, symbol_of};
 ghost use Rattle.context.specs.Given.{texts};
@@ -9,7 +8,7 @@ ghost use Rattle.promises.specs.Emitted.{Emitted};
 ghost use Rattle.operands.specs.Says.{kind_says, index_fault_says, slice_fault_says, nothing};
 
 use crate::kinds::{fits, indexes_wire, within};
-use context::{GateOperand, Index, SemaContext, Sink, Symbol};
+use context::{GateOperand, SemaContext, Sink, Symbol};
 use lines::{Expected, Message, Note, error, error_with_note};
 
 // An error of an operand, with a note where its symbol is declared.

@@ -7,19 +7,16 @@ mod measured;
 mod uses;
 mod widths;
 
-ghost use Rattle.std.specs.Prelude.{◌≡◌, true, [], ◌++◌, ◌≤◌, ◌<◌, length};
+ghost use Rattle.std.specs.Prelude.{◌≡◌, true, [], ◌++◌, ◌<◌, length};
 ghost use Rattle.tree.specs.Ans.{IsOk, given};
 ghost use Rattle.tree.specs.Read.{vec};
 ghost use Rattle.tree.specs.Stmts.{operand};
-ghost use Rattle.tree.specs.Decode.{texts_of};
 ghost use Rattle.sema.specs.Operands.{check_operand, operand_width, check_use_after_measure, use_operands};
 ghost use Rattle.sema.specs.Messages.{a_qubit};
 ghost use Rattle.sema.specs.Stmts.{register_widths, widths_say};
 ghost use Rattle.context.specs.Values.{number_of, operand_of};
 ghost use Rattle.context.specs.Given.{texts, scopes};
-ghost use Rattle.context.specs.View.{Placed, keys_in, scopes_of, marks_of};
 ghost use Rattle.lines.specs.Values.{expected_of};
-ghost use Rattle.sheet.specs.Sheet.{Indexed, Distinct};
 ghost use Rattle.promises.specs.Emitted.{Emitted};
 ghost use Rattle.operands.specs.Measured.{marks};
 ghost use Rattle.operands.specs.Says.{nothing};
@@ -28,7 +25,7 @@ ghost use Rattle.operands.specs.Widths.{measure_widths, uniform, agree};
 
 use accepted::operands::operand_at;
 use accepted::singles::{is_single, single_at};
-use context::{GateOperand, Index, SemaContext, Sink};
+use context::{GateOperand, SemaContext, Sink};
 use lines::{Expected, Message, Note, error, error_with_note};
 pub use measured::Measured;
 use span::Span;
@@ -115,8 +112,7 @@ fn check_use_after_measure(
     if place == 0 {
         return sink;
     }
-    // std has no From<u64> for usize, and a place is one of the tree.
-    let at = uses::measure_span(m.sema.texts.tree, place as usize);
+    let at = uses::measure_span(m.sema.texts.tree, usize::from(place));
     lines::report(
         out,
         sink,

@@ -6,8 +6,7 @@ ghost use Rattle.tree.specs.Decode.{texts_of};
 ghost use Rattle.sema.specs.Marks.{smallest_covered};
 ghost use Rattle.sema.specs.Operands.{used_index_says};
 ghost use Rattle.context.specs.Given.{texts};
-ghost use Rattle.context.specs.View.{Placed, keys_in, marks_of, measure_span};
-ghost use Rattle.sheet.specs.Sheet.{Indexed, Distinct};
+ghost use Rattle.context.specs.View.{measure_span};
 ghost use Rattle.operands.specs.Measured.{marks};
 ghost use Rattle.promises.specs.Emitted.{Emitted};
 
@@ -44,8 +43,7 @@ pub fn check_slice_use(
     let Some((i, place)) = sheet::smallest(m.marks, m.keys, x, a, b) else {
         return sink;
     };
-    // std has no From<u64> for usize, and a place is one of the tree.
-    let at = measure_span(m.sema.texts.tree, place as usize);
+    let at = measure_span(m.sema.texts.tree, usize::from(place));
     lines::report(
         out,
         sink,

@@ -1,5 +1,5 @@
 // What a gate call says.
-ghost use Rattle.std.specs.Prelude.{◌≡◌, [], ◌++◌, ◌+◌, ◌≤◌, ◌<◌, length, get_or, eqb};
+ghost use Rattle.std.specs.Prelude.{◌≡◌, [], ◌++◌, ◌+◌, ◌<◌, length, get_or, eqb};
 ghost use Rattle.ast.specs.Tree.{no_expr};
 ghost use Rattle.tree.specs.Ans.{IsOk, next_of};
 ghost use Rattle.tree.specs.Read.{vec};
@@ -11,18 +11,17 @@ ghost use Rattle.sema.specs.Operands.{use_operands};
 ghost use Rattle.sema.specs.Stmts.{params_say, widths_say, register_widths};
 ghost use Rattle.context.specs.Given.{texts, scopes, functions};
 ghost use Rattle.operands.specs.Measured.{marks};
-ghost use Rattle.context.specs.View.{Placed, scopes_of, gates_of, functions_of, keys_in, marks_of};
+ghost use Rattle.context.specs.View.{gates_of};
 ghost use Rattle.accepted.specs.Parts.{value_or};
 ghost use Rattle.lines.specs.Values.{secondary_of, NoteBelow};
 ghost use Rattle.promises.specs.Emitted.{Emitted};
 ghost use Rattle.promises.specs.Typings.{plain_context};
-ghost use Rattle.promises.specs.Walks.{Walkable};
 ghost use Rattle.operations.specs.Calls.{CallOf, params_by, qubits_by, fits_arity, arity_by, standard_of, signature_by};
 
 use accepted::exprs::skip_exprs;
 use accepted::numbers::{span_at, u16_at};
 use accepted::parts::skip_operands;
-use context::{GateSig, Index, SemaContext, Sink};
+use context::{SemaContext, Sink};
 use lines::pieces::name_of;
 use lines::{Diagnostic, Message, Note, Severity};
 use operands::Measured;

@@ -12,7 +12,7 @@ ghost use Rattle.tree.specs.Decode.{texts_of};
 ghost use Rattle.sema.specs.Operands.{use_operands};
 ghost use Rattle.context.specs.Given.{texts, scopes};
 ghost use Rattle.operands.specs.Measured.{marks};
-ghost use Rattle.context.specs.View.{Placed, scopes_of, keys_in, keys_of, marks_of, span_at};
+ghost use Rattle.context.specs.View.{scopes_of, keys_in, keys_of, span_at};
 ghost use Rattle.sheet.specs.Behind.{Blank};
 ghost use Rattle.sheet.specs.Sheet.{Indexed, Grown};
 ghost use Rattle.promises.specs.Went.{stmt_keys};

@@ -4,7 +4,6 @@ ghost use Rattle.std.proofs.Math.Option.{some};
 ghost use Rattle.tree.specs.Ans.{IsOk, next_of};
 ghost use Rattle.tree.specs.Read.{option};
 ghost use Rattle.tree.specs.Stmts.{operand};
-ghost use Rattle.tree.specs.Decode.{texts_of};
 ghost use Rattle.sema.specs.Messages.{warning, already_measured};
 ghost use Rattle.sema.specs.Marks.{mark_measured, apply, lookup_measured};
 ghost use Rattle.sema.specs.Operands.{is_some, unless};
@@ -17,7 +16,6 @@ ghost use Rattle.sheet.specs.Sheet.{Covers};
 ghost use Rattle.sheet.specs.Behind.{Blank};
 ghost use Rattle.promises.specs.Emitted.{Emitted};
 ghost use Rattle.promises.specs.Typings.{SaidOf};
-ghost use Rattle.promises.specs.Walks.{Walkable};
 
 use accepted::numbers::span_at;
 use accepted::operands::operand_at;

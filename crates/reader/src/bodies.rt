@@ -114,6 +114,7 @@ fn read_stmt(source: &Source, at: usize, left: usize) -> Read<()>
     if left == 0 {
         return refuse(Refusal::TooDeep, at);
     }
+    // By the case byte: an enum with a conversion would say each case twice.
     match b {
         0 => stmts::read_include(source, at),
         1 | 2 => stmts::read_register(source, at),

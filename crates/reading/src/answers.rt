@@ -8,7 +8,7 @@ ghost use Rattle.reading.specs.Answers.{answer, forget, Mapped};
 
 use refusal::{Refusal, Refused};
 
-// An enum and no Result: each read is taken apart by `let .. else` and its refusal passed up, a form that the customer names.
+// An enum and no Result: each read is taken apart by `let .. else` and its refusal passed up.
 #[derive(Clone, Copy)]
 pub enum Read<T> {
     At(T, usize),

@@ -105,6 +105,7 @@ pub(crate) fn checksum(x: &[u8]) -> u64
 {
     let mut h = 0;
     let mut rest = x;
+    // `while let`: std's own way to take chunks from the front of a slice.
     while let Some(([a, b, c, d, e, f, g, i], tail)) = rest.split_first_chunk::<8>() {
         let v = u32::from_le_bytes([*a, *b, *c, *d]);
         let w = u32::from_le_bytes([*e, *f, *g, *i]);

@@ -63,6 +63,7 @@ pub fn qualifier_at(tree: &[u8], at: usize) -> Option<ClassicalQualifier>
     if tree[at] == 0 {
         return None;
     }
+    // An accepted byte, total: TryFrom would add an error that no accepted byte gives.
     match tree[at + 1] {
         0 => Some(ClassicalQualifier::Const),
         1 => Some(ClassicalQualifier::Input),
@@ -127,6 +128,7 @@ pub fn declaration_at(tree: &[u8], at: usize, left: usize) -> Declaration
     requires { IsOk (stmt (texts_of tree.now) left tree.now at) × (0 < get_or tree.now at 0) × (get_or tree.now at 0 < 4) }
     ensures { Declares (texts_of tree.now) (stmt (texts_of tree.now) left tree.now at) result }
 {
+    // By the case byte: an enum with a conversion would say each case twice.
     match tree[at] {
         1 => register(tree, at, left, SymbolKind::Qubit),
         2 => register(tree, at, left, SymbolKind::Bit),

@@ -10,7 +10,7 @@ ghost use Rattle.span.specs.declared.Span.{Span};
 ghost use Rattle.sema.specs.Marks.{Key as MarkKey, no_marks, in_slice, apply, clear_measured, unite as uniteMarks};
 ghost use Rattle.sema.specs.Keys.{same_key};
 ghost use Rattle.context.specs.Values.{number_of, operand_of, key_of};
-ghost use Rattle.context.specs.View.{keys_of, place_in, marks_of, measure_span, PlaceOk, Placed};
+ghost use Rattle.context.specs.View.{keys_of, marks_of, measure_span, PlaceOk, Placed};
 ghost use Rattle.sheet.specs.Sheet.{lookup_in, smaller, offer, least_in, smallest_in, Distinct, Covers, measuring, stored, first};
 ghost use Rattle.sheet.specs.Behind.{Blank};
 

@@ -1,11 +1,10 @@
 // The function of a call, and an argument against its parameter.
 ghost use Rattle.std.specs.Prelude.{◌≡◌, ◌-◌, ◌≤◌, ◌<◌, length, drop, eqb};
-ghost use Rattle.tree.specs.Decode.{texts_of};
 ghost use Rattle.sema.specs.Messages.{error_with_note, function_arguments, function_defined};
 ghost use Rattle.sema.specs.Operands.{unless};
 ghost use Rattle.context.specs.Values.{typed_of};
 ghost use Rattle.context.specs.Given.{texts, functions};
-ghost use Rattle.context.specs.View.{span_at, functions_of};
+ghost use Rattle.context.specs.View.{span_at};
 ghost use Rattle.tables.specs.Tables.{params_of};
 ghost use Rattle.promises.specs.Emitted.{Emitted};
 ghost use Rattle.typing.specs.Checks.{CalleeOf, argument_at};

@@ -1,11 +1,10 @@
 // The cases of an expression, once its parts have their types.
 ghost use Rattle.std.specs.Prelude.{◌≡◌, [], ◌∷◌, ◌+◌, ◌≤◌, ◌<◌, length};
 ghost use Rattle.ast.specs.Tree.{Expr};
-ghost use Rattle.tree.specs.Decode.{texts_of};
 ghost use Rattle.sema.specs.Exprs.{untyped, ident_type, index_type, neg_type, check_expr};
 ghost use Rattle.context.specs.Values.{kind_of, symbol_of, typed_of};
 ghost use Rattle.context.specs.Given.{texts, scopes, functions};
-ghost use Rattle.context.specs.View.{number_at, span_at, scopes_of, functions_of};
+ghost use Rattle.context.specs.View.{number_at, span_at};
 ghost use Rattle.lines.specs.Values.{Below, name_in, diagnostic_of, error_of};
 ghost use Rattle.typing.specs.Checks.{Found, has_type, comparable, operator_of, operation_type, pair_type, pair_message};
 
@@ -164,6 +163,7 @@ fn comparable(a: ClassicalType, b: ClassicalType) -> bool
 pub fn operator(case: u8) -> Operator
     ensures { result ≡ operator_of case }
 {
+    // An accepted byte, total: TryFrom would add an error that no accepted byte gives.
     match case {
         8 => Operator::Arithmetic,
         _ => Operator::Comparison,

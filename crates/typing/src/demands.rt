@@ -1,6 +1,5 @@
 // The type of an expression against what is asked of it.
 ghost use Rattle.std.specs.Prelude.{◌≡◌, ◌-◌, ◌≤◌, length};
-ghost use Rattle.tree.specs.Decode.{texts_of};
 ghost use Rattle.context.specs.Values.{typed_of};
 ghost use Rattle.context.specs.Given.{texts};
 ghost use Rattle.context.specs.View.{span_at};

@@ -12,11 +12,10 @@ ghost use Rattle.tree.specs.Ans.{IsOk, next_of, given};
 ghost use Rattle.tree.specs.Read.{option, vec};
 ghost use Rattle.tree.specs.Exprs.{expr, exprs};
 ghost use Rattle.tree.specs.Stmts.{held, modifier};
-ghost use Rattle.tree.specs.Decode.{texts_of};
 ghost use Rattle.sema.specs.Exprs.{check_arguments, require_type, require_numeric, control_says, check_modifier, check_modifiers};
 ghost use Rattle.sema.specs.Stmts.{params_say};
 ghost use Rattle.context.specs.Given.{texts, scopes, functions};
-ghost use Rattle.context.specs.View.{span_at, scopes_of, functions_of};
+ghost use Rattle.context.specs.View.{span_at};
 ghost use Rattle.lines.specs.Values.{place_of, message_of, name_in, Below};
 ghost use Rattle.tables.specs.Tables.{params_of};
 ghost use Rattle.promises.specs.Emitted.{Emitted};
@@ -110,6 +109,7 @@ pub fn check_expr(
     requires { IsOk (expr (texts sema) left sema.texts.tree.now at) }
     ensures { TypingOf (texts sema.entry) (scopes sema.entry) (functions sema.entry) (expr (texts sema.entry) left sema.entry.texts.tree.now at) sink out.old result out.new }
 {
+    // By the case byte: an enum with a conversion would say each case twice.
     match sema.texts.tree[at] {
         0 => cases::has_type(ClassicalType::Int, at + 17, sink),
         1 => cases::has_type(ClassicalType::Float, at + 11, sink),
@@ -204,6 +204,7 @@ fn check_modifier(sema: SemaContext<'_>, out: &mut [u8], at: usize, sink: Sink) 
     requires { IsOk (modifier (texts sema) sema.texts.tree.now at) }
     ensures { SaidOf (texts sema.entry) (check_modifier (scopes sema.entry) (functions sema.entry)) (modifier (texts sema.entry) sema.entry.texts.tree.now at) sink out.old result out.new }
 {
+    // By the case byte: an enum with a conversion would say each case twice.
     match sema.texts.tree[at] {
         2 => After { next: at + 9, sink },
         3 => {

@@ -109,6 +109,7 @@ fn branch_else(
     Some(e)
 }
 
+// Each case of a statement has its function.
 #[cycle(stmts)]
 fn for_loop(
     texts: Texts<'_>,
@@ -188,6 +189,7 @@ fn plain_stmt(
     ensures walked { StmtWalked texts.entry.tree.now (keys_of keys.now) left (state_of at sink marks.old) scratch.old out.old (state_of result.next result.sink marks.new) scratch.new out.new }
     ensures behind { (n : ℕ) → length keys.now ≤ n → Blank n marks.old → Blank n marks.new }
 {
+    // By the case byte: an enum with a conversion would say each case twice.
     match texts.tree[at] {
         0 => operations::include(texts.tree, scratch, out, left, at, sink),
         1 => declarations::qubit_decl(texts, scratch, out, left, at, sink),
@@ -261,6 +263,7 @@ fn body_stmt(
     ensures { StmtWent texts.entry.tree.now left st index.old scratch.old out.old result index.new scratch.new out.new }
 {
     let at = st.at;
+    // By the case byte: an enum with a conversion would say each case twice.
     match texts.tree[at] {
         6 => gate_def(texts, index, scratch, out, left, st),
         12 => branch(texts, index, scratch, out, left, st),

@@ -8,7 +8,7 @@ pub returns-then-place-eq0 : goal.returns-then-place-eq0
 returns-then-place-eq0 c = search uses
 
 pub measure_span-at-requires : goal.measure_span-at-requires
-measure_span-at-requires c = search looked_up
+measure_span-at-requires c = rw c.from.ensures (search looked_up)
 
 pub returns : goal.returns
-returns c = search uses
+returns c = let e = rw c.from.ensures at c.measure_span-at.ensures in search uses

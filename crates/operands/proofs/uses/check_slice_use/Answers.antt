@@ -5,7 +5,7 @@ pub returns-in_default : goal.returns-in_default
 returns-in_default c = search slice-uses
 
 pub measure_span-at-requires : goal.measure_span-at-requires
-measure_span-at-requires c = search covered
+measure_span-at-requires c = rw c.from.ensures (search covered)
 
 pub returns : goal.returns
-returns c = search slice-uses
+returns c = let e = rw c.from.ensures at c.measure_span-at.ensures in search slice-uses
