@@ -1,3 +1,3 @@
-pub mod Halves
+pub mod Bytes
 pub mod ReadOperands
 pub mod SkipParts

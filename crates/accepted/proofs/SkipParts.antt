@@ -1,31 +1,51 @@
 -- Where the parts of statements end, in the steps of the code. Assumes nothing.
 use Prim.Native.Nat.{ℕ, zero, suc, ◌+◌, ◌-◌, ◌*◌, ◌≤◌, ◌<◌}
-use mathlib.Core.Path.{◌≡◌, refl, sym}
+use mathlib.Core.Path.{◌≡◌, refl, sym, ◌∙◌}
 use mathlib.Core.List.{List}
 use mathlib.Core.Bool.{true}
 use native.Mathlib.Omega.{arith}
 use native.Mathlib.Numerals.{add-one}
 use lib.ListN.{length, get_or}
-use Rattle.ast.specs.Tree.{Text}
+use Rattle.ast.specs.Tree.{Text, Stmt}
 use Rattle.tree.specs.Ans.{Reader, IsOk, next_of}
 use Rattle.tree.specs.Read.{u64, option, counted}
-use Rattle.tree.specs.Stmts.{slice, operand, held, modifier, for_range}
+use Rattle.tree.specs.Stmts.{slice, operand, held, modifier, for_range, body, else_body}
 use Rattle.accepted.specs.Parts.{next_is}
-use Rattle.accepted.specs.Fields.{option_in, counted_in}
+use Rattle.accepted.specs.Fields.{option_in, option-held, option-none-next, option-some-next, counted_in}
 use Rattle.accepted.specs.Remains.{Remains, remains-none, remains-step, remains-first, remains-done}
-use Rattle.accepted.specs.Ends.{Moves, counted-moves, option_inside}
-use Rattle.accepted.specs.Sizes.{Sized, option_end, option_end_lem, vec-end}
+use Rattle.accepted.specs.Ends.{Moves, number-moves, counted-moves}
+use Rattle.accepted.specs.Sizes.{Sized, number-sized, slice-sized, qualifier-sized, vec-end}
 use Rattle.accepted.specs.Steps.{Reached}
 use Rattle.accepted.specs.Operands as of
+use Rattle.accepted.specs.Bodies.{else_in, else_none, else_body_lem, else_some}
 use Rattle.accepted.specs.Singles.{is_single, single_is}
 
-module _ {A : Type 0} (p : Reader A) (size : ℕ) (z : Sized p size) (s : List ℕ) (at : ℕ) where
-  pub option-room : Moves p → IsOk (option p s at) → (at < length s) × (option_end s at size ≤ length s)
-  option-room m h =
-      let e = option_end_lem s at p size z h in
-      let f = option_inside p m s at h in
-      (option_in s at p h, omega arith)
+-- an Option stepped over: by its first byte, and the step past its value
+by_flag : (b : ℕ) {k n : ℕ} → (b ≡ 0 → k ≡ n) → ((b ≡ 0 → ⊥) → k ≡ n) → k ≡ n
+by_flag zero none some = none refl
+by_flag (suc b) none some = some (λ e. omega arith)
 
+module _ {A : Type 0} (p : Reader A) (s : List ℕ) (at : ℕ) (h : IsOk (option p s at)) where
+  pub option-past : (k : ℕ) → (get_or s at 0 ≡ 0 → k ≡ at + 1) → ((get_or s at 0 ≡ 0 → ⊥) → k ≡ next_of (p s (at + 1))) → k ≡ next_of (option p s at)
+  option-past k none some = by_flag _ (λ e. none e ∙ option-none-next s at p h e) (λ z. option-some-next s at p h k (some z) z)
+
+  module _ (size : ℕ) (w : Sized p size) where
+    pub option-room : Moves p → (get_or s at 0 ≡ 0 → ⊥) → at + 1 + size ≤ length s
+    option-room m z =
+        let i = option_in s at p h in
+        let v = option-held s at p h z in
+        let e = w.sized s (at + 1) v in
+        let l : at + 1 ≤ length s = omega arith in
+        let n = (m.moves s (at + 1) l v).1 in
+        omega arith
+
+    pub option-sized : (k : ℕ) → (get_or s at 0 ≡ 0 → k ≡ at + 1) → ((get_or s at 0 ≡ 0 → ⊥) → k ≡ at + 1 + size) → k ≡ next_of (option p s at)
+    option-sized k none some = option-past k none (λ z. some z ∙ sym (w.sized s (at + 1) (option-held s at p h z)))
+
+pub else-past : (inner : Reader Stmt) (s : List ℕ) (at : ℕ) → IsOk (else_body inner s at) → (k : ℕ) → (get_or s at 0 ≡ 0 → k ≡ at + 1) → ((get_or s at 0 ≡ 0 → ⊥) → k ≡ next_of (body inner s (at + 1))) → k ≡ next_of (else_body inner s at)
+else-past inner s at h k none some = by_flag _ (λ e. none e ∙ sym (next_is (else_none inner s at h e))) (λ z. sym (next_is (else_some inner s at h z k (some z))))
+
+module _ {A : Type 0} (p : Reader A) (size : ℕ) (z : Sized p size) (s : List ℕ) (at : ℕ) where
   module _ {B : Type 0} (nil : B) (cons : A → B → B) (h : IsOk (counted nil cons p s at)) where
     pub vec-next : at + 1 + get_or s at 0 * size ≡ next_of (counted nil cons p s at)
     vec-next = vec-end nil cons p size z s at h
@@ -66,3 +86,9 @@ module _ (t : List Text) (s : List ℕ) (at : ℕ) where
 
     pub pow-next : get_or s at 0 ≡ 3 → (k : ℕ) → k ≡ next_of (held t s (at + 1)) → k + 8 ≡ next_of (modifier t s at)
     pow-next b k e = sym (next_is (of.pow_is t s at h b k e))
+
+pub ruleset modifier_parts = (of.modifier_in, of.pow_exponent, of.pow-inside, of.control_count_lem, of.control-inside, of.control-next, inv-next, pow-next)
+
+pub ruleset options = (option_in, option-held, else_in, else_body_lem, option-room, number-sized, slice-sized, qualifier-sized, number-moves, of.slice-moves, of.qualifier-moves)
+
+pub ruleset vecs = (counted_in, reached-held, reached-end)

@@ -6,6 +6,8 @@ ghost use Rattle.tree.specs.Exprs.{expr, exprs};
 ghost use Rattle.tree.specs.Stmts.{held};
 ghost use Rattle.tree.specs.Decode.{texts_of};
 
+use crate::parts::{skip_option, skip_vec};
+
 // The place past an expression with so many levels left.
 #[cycle(skip_expr_skip_exprs)]
 pub fn skip_expr(s: &[u8], at: usize, left: usize) -> usize
@@ -30,26 +32,28 @@ pub fn skip_expr(s: &[u8], at: usize, left: usize) -> usize
     }
 }
 
-// The place past a Vec of expressions. A loop of its own, and no `skip_vec`: a closure in a cycle of calls gets no proof.
+// The place past a Vec of expressions.
 #[cycle(skip_expr_skip_exprs)]
+#[tactic(auto, using(crate::proofs::SkipParts::vecs))]
 pub fn skip_exprs(s: &[u8], at: usize, left: usize) -> usize
     requires { IsOk (exprs (expr (texts_of s.now) left) s.now at) }
     ensures { result ≡ next_of (exprs (expr (texts_of s.now) left) s.now at) }
 {
-    let mut k = at + 1;
-    for _ in 0..s[at] {
-        k = skip_expr(s, k, left);
-    }
-    k
+    skip_vec(
+        s,
+        at,
+        |k|
+            requires { IsOk (expr (texts_of s.now) left s.now k) }
+            ensures { result ≡ next_of (expr (texts_of s.entry.now) left s.entry.now k) }
+        { skip_expr(s, k, left) },
+    )
 }
 
 // The place past an Option of an expression that a statement or a modifier holds.
+#[tactic(auto, using(crate::proofs::SkipParts::options))]
 pub fn skip_option_expr(s: &[u8], at: usize) -> usize
     requires { IsOk (option (held (texts_of s.now)) s.now at) }
     ensures { result ≡ next_of (option (held (texts_of s.now)) s.now at) }
 {
-    if s[at] == 0 {
-        return at + 1;
-    }
-    skip_expr(s, at + 1, 32)
+    skip_option(s, at, |k| skip_expr(s, k, 32))
 }

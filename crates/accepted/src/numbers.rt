@@ -11,31 +11,37 @@ pub(crate) fn byte_at(s: &[u8], at: usize) -> u8
     s[at]
 }
 
+#[tactic(auto, using(crate::proofs::Bytes::two_bytes))]
 pub fn u16_at(s: &[u8], at: usize) -> usize
     requires { at + 2 ≤ length s.now }
     ensures { (result ≡ number_at 2 s.now at) × (result < 65536) }
 {
-    usize::from(s[at]) * 256 + usize::from(s[at + 1])
+    usize::from(u16::from_be_bytes([s[at], s[at + 1]]))
 }
 
-// In this form it is compiled to one load.
+#[tactic(auto, using(crate::proofs::Bytes::four_bytes))]
 fn u32_at(s: &[u8], at: usize) -> u32
     requires { at + 4 ≤ length s.now }
     ensures { result ≡ number_at 4 s.now at }
 {
-    u32::from(s[at]) * 16777216
-        + u32::from(s[at + 1]) * 65536
-        + u32::from(s[at + 2]) * 256
-        + u32::from(s[at + 3])
+    u32::from_be_bytes([s[at], s[at + 1], s[at + 2], s[at + 3]])
 }
 
+#[tactic(auto, using(crate::proofs::Bytes::eight_bytes))]
 pub fn u64_at(s: &[u8], at: usize) -> u64
     requires { at + 8 ≤ length s.now }
     ensures { result ≡ number_at 8 s.now at }
 {
-    let high = u64::from(u32_at(s, at));
-    let low = u64::from(u32_at(s, at + 4));
-    high * 4294967296 + low
+    u64::from_be_bytes([
+        s[at],
+        s[at + 1],
+        s[at + 2],
+        s[at + 3],
+        s[at + 4],
+        s[at + 5],
+        s[at + 6],
+        s[at + 7],
+    ])
 }
 
 pub fn span_at(s: &[u8], at: usize) -> Span

@@ -1,49 +1,53 @@
 // Steps over the parts of statements: sizes added by the bytes that say what follows.
-ghost use Rattle.std.specs.Prelude.{◌≡◌, ℕ, ◌+◌, ◌*◌, ◌≤◌, ◌<◌, length, get_or};
+ghost use Rattle.std.specs.Prelude.{◌≡◌, ◌≢◌, ℕ, ◌+◌, ◌*◌, ◌≤◌, ◌<◌, length, get_or};
 ghost use Rattle.tree.specs.Ans.{IsOk, next_of};
 ghost use Rattle.tree.specs.Read.{u64, option, vec};
 ghost use Rattle.tree.specs.Exprs.{name};
 ghost use Rattle.tree.specs.Stmts.{qualifier, slice, operand, modifier, for_range, param};
 ghost use Rattle.tree.specs.Decode.{texts_of};
-ghost use Rattle.accepted.specs.Sizes.{option_end};
 ghost use Rattle.accepted.specs.Steps.{Reached};
 
 use crate::exprs::{skip_expr, skip_option_expr};
 use crate::singles::is_single;
 
-// The place past an Option of a value of so many bytes.
-fn skip_option(s: &[u8], at: usize, size: usize) -> usize
-    requires { (at < length s.now) × (option_end s.now at size ≤ length s.now) }
-    ensures { result ≡ option_end s.now at size }
+// The place past an Option: behind its value, where there is one.
+pub(crate) fn skip_option<F: FnOnce(usize) -> usize>(s: &[u8], at: usize, skip: F) -> usize
+    requires at_in_bounds { at < length s.now }
+    requires callable { get_or s.now at 0 ≢ 0 → F.pre skip (at + 1) }
+    ensures none { get_or s.now at 0 ≡ 0 → result ≡ at + 1 }
+    ensures some { get_or s.now at 0 ≢ 0 → F.post skip (at + 1) result }
 {
     if s[at] == 0 {
         return at + 1;
     }
-    at + 1 + size
+    skip(at + 1)
 }
 
 // Past an Option of a number.
+#[tactic(auto, using(crate::proofs::SkipParts::options))]
 pub(crate) fn skip_number(s: &[u8], at: usize) -> usize
     requires { IsOk (option u64 s.now at) }
     ensures { result ≡ next_of (option u64 s.now at) }
 {
-    skip_option(s, at, 8)
+    skip_option(s, at, |k| k + 8)
 }
 
 // Past an Option of a slice.
+#[tactic(auto, using(crate::proofs::SkipParts::options))]
 fn skip_ends(s: &[u8], at: usize) -> usize
     requires { IsOk (option slice s.now at) }
     ensures { result ≡ next_of (option slice s.now at) }
 {
-    skip_option(s, at, 16)
+    skip_option(s, at, |k| k + 16)
 }
 
 // Past an Option of a qualifier.
+#[tactic(auto, using(crate::proofs::SkipParts::options))]
 pub fn skip_qualifier(s: &[u8], at: usize) -> usize
     requires { IsOk (option qualifier s.now at) }
     ensures { result ≡ next_of (option qualifier s.now at) }
 {
-    skip_option(s, at, 1)
+    skip_option(s, at, |k| k + 1)
 }
 
 // The place past a Vec of values of so many bytes.
@@ -71,7 +75,7 @@ pub fn skip_params(s: &[u8], at: usize) -> usize
 }
 
 // The place past a Vec whose values are stepped over one by one.
-fn skip_vec<F: Fn(usize) -> usize>(s: &[u8], at: usize, skip: F) -> usize
+pub(crate) fn skip_vec<F: Fn(usize) -> usize>(s: &[u8], at: usize, skip: F) -> usize
     requires at_in_bounds { at < length s.now }
     requires callable { (i k : ℕ) → i < get_or s.now at 0 → Reached (F.post skip) i (at + 1) k → F.pre skip k }
     ensures { Reached (F.post skip) (get_or s.now at 0) (at + 1) result }
@@ -94,16 +98,15 @@ pub fn skip_operand(s: &[u8], at: usize) -> usize
     skip_ends(s, k) + 8
 }
 
+#[tactic(auto, using(crate::proofs::SkipParts::options))]
 pub fn skip_option_operand(s: &[u8], at: usize) -> usize
     requires { IsOk (option (operand (texts_of s.now)) s.now at) }
     ensures { result ≡ next_of (option (operand (texts_of s.now)) s.now at) }
 {
-    if s[at] == 0 {
-        return at + 1;
-    }
-    skip_operand(s, at + 1)
+    skip_option(s, at, |k| skip_operand(s, k))
 }
 
+#[tactic(auto, using(crate::proofs::SkipParts::vecs))]
 pub fn skip_operands(s: &[u8], at: usize) -> usize
     requires { IsOk (vec (operand (texts_of s.now)) s.now at) }
     ensures { result ≡ next_of (vec (operand (texts_of s.now)) s.now at) }
@@ -111,6 +114,7 @@ pub fn skip_operands(s: &[u8], at: usize) -> usize
     skip_vec(s, at, |k| skip_operand(s, k))
 }
 
+#[tactic(auto, using(crate::proofs::SkipParts::modifier_parts))]
 pub fn skip_modifier(s: &[u8], at: usize) -> usize
     requires { IsOk (modifier (texts_of s.now) s.now at) }
     ensures { result ≡ next_of (modifier (texts_of s.now) s.now at) }
@@ -123,6 +127,7 @@ pub fn skip_modifier(s: &[u8], at: usize) -> usize
     }
 }
 
+#[tactic(auto, using(crate::proofs::SkipParts::vecs))]
 pub(crate) fn skip_modifiers(s: &[u8], at: usize) -> usize
     requires { IsOk (vec (modifier (texts_of s.now)) s.now at) }
     ensures { result ≡ next_of (vec (modifier (texts_of s.now)) s.now at) }

@@ -9,7 +9,7 @@ ghost use Rattle.accepted.specs.Singles.{is_single};
 use crate::numbers::{span_at, u16_at, u64_at};
 use context::GateOperand;
 
-#[tactic(auto, unfolding(crate::specs::Singles::is_single))]
+#[tactic(auto, using(crate::specs::Singles::index_in, crate::specs::Singles::slice_in), unfolding(crate::specs::Singles::is_single))]
 pub fn is_single(s: &[u8], at: usize) -> bool
     requires { IsOk (operand (texts_of s.now) s.now at) }
     ensures { result ≡ is_single s.now at }

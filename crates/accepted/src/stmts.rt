@@ -8,8 +8,8 @@ ghost use Rattle.accepted.specs.Compound.{Compound, body_place};
 use crate::exprs::{skip_expr, skip_exprs, skip_option_expr};
 use crate::numbers::u16_at;
 use crate::parts::{
-    skip_modifiers, skip_names, skip_number, skip_operand, skip_operands, skip_option_operand,
-    skip_params, skip_qualifier, skip_range,
+    skip_modifiers, skip_names, skip_number, skip_operand, skip_operands, skip_option,
+    skip_option_operand, skip_params, skip_qualifier, skip_range,
 };
 
 // The place past a statement with so many levels left.
@@ -107,7 +107,7 @@ fn skip_compound(s: &[u8], at: usize, left: usize) -> usize
     m + 8
 }
 
-// The place past a body whose statements have so many levels left.
+// The place past a body whose statements have so many levels left. A loop of its own: the count has two bytes, in a Vec one.
 #[cycle(skip_body_skip_compound_skip_else_skip_stmt)]
 pub fn skip_body(s: &[u8], at: usize, left: usize) -> usize
     requires { IsOk (body (stmt (texts_of s.now) left) s.now at) }
@@ -122,12 +122,17 @@ pub fn skip_body(s: &[u8], at: usize, left: usize) -> usize
 
 // The place past the body of an `else`, where there is one.
 #[cycle(skip_body_skip_compound_skip_else_skip_stmt)]
+#[tactic(auto, using(crate::proofs::SkipParts::options))]
 fn skip_else(s: &[u8], at: usize, left: usize) -> usize
     requires { IsOk (else_body (stmt (texts_of s.now) left) s.now at) }
     ensures { result ≡ next_of (else_body (stmt (texts_of s.now) left) s.now at) }
 {
-    if s[at] == 0 {
-        return at + 1;
-    }
-    skip_body(s, at + 1, left)
+    skip_option(
+        s,
+        at,
+        |k|
+            requires { IsOk (body (stmt (texts_of s.now) left) s.now k) }
+            ensures { result ≡ next_of (body (stmt (texts_of s.entry.now) left) s.entry.now k) }
+        { skip_body(s, k, left) },
+    )
 }

@@ -64,11 +64,11 @@ pub fn report_gate(sema: SemaContext<'_>, out: &mut [u8], x: usize, span: Span, 
 
 // A Vec has as many values as its byte says.
 #[tactic(auto, using(accepted::specs::Fields::counted_in))]
-fn count_at(tree: &[u8], at: usize) -> usize
+fn count_at(tree: &[u8], at: usize) -> u8
     requires { IsOk (vec (name (texts_of tree.now)) tree.now at) }
-    ensures { (result ≡ length (value_or [] (vec (name (texts_of tree.now)) tree.now at))) × (result < 256) }
+    ensures { result ≡ length (value_or [] (vec (name (texts_of tree.now)) tree.now at)) }
 {
-    usize::from(tree[at])
+    tree[at]
 }
 
 // The gate is defined, and the scope of its parameters, which stand at `at`, is entered.

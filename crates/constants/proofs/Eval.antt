@@ -75,3 +75,5 @@ module _ (t : List Text) (left : ℕ) (s : List ℕ) (at : ℕ) (h : IsOk (expr 
   pub other-value : (get_or s at 0 ≡ 0 → ⊥) → (get_or s at 0 ≡ 7 → ⊥) → (get_or s at 0 ≡ 8 → ⊥) → (k : ℕ) → k ≡ next_of (expr t left s at) → ValueOf (expr t left s at) (record { value = None; next = k })
   unfolding whole_of
   other-value i n o k e = record { next = e; value = sym (no_value (get_or s at 0) refl i n o) }
+
+pub ruleset evaluating = (of.expr_in, of.expr_left, of.int_lit-inside, of.neg_inner, of.pair_lhs, of.pair_rhs, of.pair_inside, other-value)

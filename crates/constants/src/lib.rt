@@ -61,6 +61,7 @@ fn combine(op: BinOp, lhs: Option<Int128>, rhs: Option<Int128>) -> Option<Int128
 }
 
 // The value of an expression, worked out from the values of its parts, and the place past it.
+#[tactic(auto, using(crate::proofs::Eval::evaluating))]
 pub fn eval_const_int(tree: &[u8], at: usize, left: usize) -> Past<Option<Int128>>
     requires { IsOk (expr (texts_of tree.now) left tree.now at) }
     ensures { ValueOf (expr (texts_of tree.now) left tree.now at) result }
@@ -68,7 +69,7 @@ pub fn eval_const_int(tree: &[u8], at: usize, left: usize) -> Past<Option<Int128
     // By the case byte: an enum with a conversion would say each case twice.
     match tree[at] {
         0 => Past {
-            value: Some(Int128::from_u64(u64_at(tree, at + 1))),
+            value: Some(Int128::from(u64_at(tree, at + 1))),
             next: at + 17,
         },
         7 => {
@@ -106,7 +107,7 @@ pub fn is_count(v: Option<Int128>) -> bool
 fn count_of(v: Option<Int128>) -> Option<u64>
     ensures { total_of result ≡ sema.and_then (whole_of v) sema.as_count }
 {
-    let n = v?.to_u64()?;
+    let n = u64::try_from(v?).ok()?;
     (n > 0).then_some(n)
 }
 

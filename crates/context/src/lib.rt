@@ -43,7 +43,7 @@ pub struct GateOperand {
     pub span: Span,
 }
 
-#[derive(Clone, Copy)]
+#[derive(Clone, Copy, Debug, PartialEq, Eq)]
 pub enum SymbolKind {
     Qubit,
     Bit,
@@ -70,15 +70,15 @@ pub struct Symbol {
 
 #[derive(Clone, Copy)]
 pub struct GateSig {
-    pub param_count: usize,
-    pub qubit_count: usize,
+    pub param_count: u8,
+    pub qubit_count: u8,
     pub decl_span: Span,
 }
 
 // The types of the parameters are read one by one.
 #[derive(Clone, Copy)]
 pub struct FunctionSig {
-    pub param_count: usize,
+    pub param_count: u8,
     pub return_type: ClassicalType,
     pub decl_span: Span,
 }

@@ -103,10 +103,10 @@ unfolding defined_says
 says-again f p x sp h = rw (h.is, h.same_span)
 
 module _ (tree : List ℕ) (at : ℕ) (f : Function) {s : Sink} {scratch o : List ℕ} (few : FewParams (functions_of scratch)) where
-  pub defined-again : {r : Sink} {o' : List ℕ} (found : Maybe FunctionValue) (prev : FunctionValue) → found ≡ brief_of (functions_of scratch f.name) → found ≡ Some prev
+  pub defined_again : {r : Sink} {o' : List ℕ} (found : Maybe FunctionValue) (prev : FunctionValue) → found ≡ brief_of (functions_of scratch f.name) → found ≡ Some prev
       → Emitted (texts_of tree) (error_with_note (Messages.function_already_defined f.name) f.span Messages.first_defined prev.decl_span ∷ []) s o r o' → Defined tree at f s scratch o r scratch o'
   unfolding defined_says
-  defined-again found prev e g m =
+  defined_again found prev e g m =
       let had = brief_some (functions_of scratch f.name) prev (sym g ∙ e) in
       let same = define_again (functions_of scratch) f.name (params_at tree at) f.return_type f.span had.had had.is in
       record {
@@ -115,10 +115,10 @@ module _ (tree : List ℕ) (at : ℕ) (f : Function) {s : Sink} {scratch o : Lis
         emitted = emitted_as m (says-again _ prev f.name f.span had);
       }
 
-  pub defined-new : {scratch' : List ℕ} (found : Maybe FunctionValue) (n : ℕ) → IsOk (vec (param (texts_of tree)) tree at) → found ≡ brief_of (functions_of scratch f.name) → found ≡ None → n ≡ get_or tree at 0
+  pub defined_new : {scratch' : List ℕ} (found : Maybe FunctionValue) (n : ℕ) → IsOk (vec (param (texts_of tree)) tree at) → found ≡ brief_of (functions_of scratch f.name) → found ≡ None → n ≡ get_or tree at 0
       → FunctionDefined scratch scratch' f.name (function_in tree (at + 1) n f.return_type f.span) → Defined tree at f s scratch o s scratch' o
   unfolding defined_says
-  defined-new found n h e g c b =
+  defined_new found n h e g c b =
       let new = brief_none (functions_of scratch f.name) (sym g ∙ e) in
       let same = ap (insert (functions_of scratch) f.name) (function_is tree at h n c f.return_type f.span) ∙ sym (define_new (functions_of scratch) f.name (params_at tree at) f.return_type f.span new) in
       record {

@@ -13,6 +13,7 @@ ghost use Rattle.tree.specs.Decode.{texts_of};
 ghost use Rattle.sema.specs.Symbols.{get};
 ghost use Rattle.sema.specs.Stmts.{init_says};
 ghost use Rattle.accepted.specs.Parts.{value_or};
+ghost use Rattle.context.specs.Given.{texts, scopes, functions};
 ghost use Rattle.context.specs.Values.{typed_of};
 ghost use Rattle.context.specs.View.{span_at, type_of, scopes_of, functions_of};
 ghost use Rattle.tables.specs.Tables.{FewParams};
@@ -24,7 +25,7 @@ ghost use Rattle.declarations.specs.Checked.{Checkable, Valued, Declared, init_a
 use accepted::numbers::{span_at, u16_at};
 use accepted::parts::skip_qualifier;
 use ast::ClassicalType;
-use context::{After, SemaContext, Sink, Texts};
+use context::{After, FunctionSig, SemaContext, Sink, Texts};
 use lines::{Message, Note};
 use parts::{Assignment, Function, assign_op_at, function_at};
 use reports::{
@@ -100,54 +101,46 @@ pub fn bit_decl(
 // The initializer of x behind its byte, in the scopes after the declaration.
 #[tactic(auto, using(crate::proofs::Classical::initializers))]
 fn check_init(
-    texts: Texts<'_>,
-    scratch: &[u8],
+    sema: SemaContext<'_>,
     out: &mut [u8],
-    depth: usize,
     at: usize,
     x: usize,
     ty: ClassicalType,
     sink: Sink,
 ) -> Sink
-    requires { Checkable scratch.now depth × (x < length (texts_of texts.tree.now)) × IsOk (option (held (texts_of texts.tree.now)) texts.tree.now at) }
-    ensures { Emitted (texts_of texts.entry.tree.now) (init_says (scopes_of scratch.now depth) (functions_of scratch.now) ty x (init_at texts.entry.tree.now at)) sink out.old result out.new }
+    requires { (x < length (texts sema)) × IsOk (option (held (texts sema)) sema.texts.tree.now at) }
+    ensures { Emitted (texts sema.entry) (init_says (scopes sema.entry) (functions sema.entry) ty x (init_at sema.entry.texts.tree.now at)) sink out.old result out.new }
 {
-    if texts.tree[at] == 0 {
+    if sema.texts.tree[at] == 0 {
         return sink;
     }
-    let sema = SemaContext {
-        texts,
-        scratch,
-        depth,
-    };
     let t = typing::check_expr(sema, out, at + 1, 32, sink);
     let Some(actual) = t.typed else {
         return t.sink;
     };
     let message = Message::CannotInitialize(ty, x, actual);
-    check_type(texts, out, ty, actual, message, t.next, t.sink)
+    check_type(sema.texts, out, ty, actual, message, t.next, t.sink)
 }
 
 // What is said of the classical declaration d at `at` after its name: of its qualifier and of its initializer.
 #[tactic(auto, using(crate::proofs::Classical::classical))]
 fn check_classical(
-    texts: Texts<'_>,
-    scratch: &[u8],
+    sema: SemaContext<'_>,
     out: &mut [u8],
     left: usize,
     at: usize,
     d: Declaration,
     sink: Sink,
 ) -> Sink
-    requires { Checkable scratch.now (9 - left) × (d.name < length (texts_of texts.tree.now)) × IsOk (stmt (texts_of texts.tree.now) left texts.tree.now at) × (left ≤ 8) × (get_or texts.tree.now at 0 ≡ 3) }
-    ensures { Emitted (texts_of texts.entry.tree.now) (classical_rest (scopes_of scratch.now (9 - left)) (functions_of scratch.now) (value_or none (option qualifier texts.entry.tree.now (at + 1))) (type_of (get_or texts.entry.tree.now (next_of (option qualifier texts.entry.tree.now (at + 1))) 0)) d.name (init_at texts.entry.tree.now (next_of (option qualifier texts.entry.tree.now (at + 1)) + 3)) d.symbol.decl_span) sink out.old result out.new }
+    requires { (d.name < length (texts sema)) × IsOk (stmt (texts sema) left sema.texts.tree.now at) × (get_or sema.texts.tree.now at 0 ≡ 3) }
+    ensures { Emitted (texts sema.entry) (classical_rest (scopes sema.entry) (functions sema.entry) (value_or none (option qualifier sema.entry.texts.tree.now (at + 1))) (type_of (get_or sema.entry.texts.tree.now (next_of (option qualifier sema.entry.texts.tree.now (at + 1))) 0)) d.name (init_at sema.entry.texts.tree.now (next_of (option qualifier sema.entry.texts.tree.now (at + 1)) + 3)) d.symbol.decl_span) sink out.old result out.new }
 {
-    let q = qualifier_at(texts.tree, at + 1);
-    let k = skip_qualifier(texts.tree, at + 1);
-    let init = texts.tree[k + 3] != 0;
-    let s = check_qualifier(texts, out, q, init, d.name, d.symbol.decl_span, sink);
-    let ty = type_at(texts.tree, k);
-    check_init(texts, scratch, out, 9 - left, k + 3, d.name, ty, s)
+    let q = qualifier_at(sema.texts.tree, at + 1);
+    let k = skip_qualifier(sema.texts.tree, at + 1);
+    let init = sema.texts.tree[k + 3] != 0;
+    let s = check_qualifier(sema.texts, out, q, init, d.name, d.symbol.decl_span, sink);
+    let ty = type_at(sema.texts.tree, k);
+    check_init(sema, out, k + 3, d.name, ty, s)
 }
 
 // The declaration of a classical variable: its name, its qualifier, its initializer.
@@ -164,7 +157,12 @@ pub fn classical_decl(
 {
     let d = scopes::declaration_at(texts.tree, at, left);
     let s = declare(texts, scratch, out, 9 - left, d, sink);
-    let r = check_classical(texts, scratch, out, left, at, d, s);
+    let sema = SemaContext {
+        texts,
+        scratch,
+        depth: 9 - left,
+    };
+    let r = check_classical(sema, out, left, at, d, s);
     After {
         next: d.end,
         sink: r,
@@ -173,26 +171,20 @@ pub fn classical_decl(
 
 // The target of an assignment.
 #[tactic(auto, unfolding(crate::specs::Says::target_by))]
-fn check_target(
-    texts: Texts<'_>,
-    scratch: &[u8],
-    out: &mut [u8],
-    depth: usize,
-    a: Assignment,
-) -> Sink
-    requires { Valued texts.tree.now a.name a.value × (65536 ≤ length scratch.now) × (depth ≤ 9) }
-    ensures { Emitted (texts_of texts.entry.tree.now) (target_by (get (scopes_of scratch.now depth) a.name) a.name a.op (spanned (span_at texts.entry.tree.now (a.value.next - 8))) a.span (typed_of a.value.typed)) a.value.sink out.old result out.new }
+fn check_target(sema: SemaContext<'_>, out: &mut [u8], a: Assignment) -> Sink
+    requires { Valued sema.texts.tree.now a.name a.value }
+    ensures { Emitted (texts sema.entry) (target_by (get (scopes sema.entry) a.name) a.name a.op (spanned (span_at sema.entry.texts.tree.now (a.value.next - 8))) a.span (typed_of a.value.typed)) a.value.sink out.old result out.new }
 {
-    let Some(symbol) = tables::get(scratch, depth, a.name) else {
+    let Some(symbol) = tables::get(sema.scratch, sema.depth, a.name) else {
         return report_error(
-            texts,
+            sema.texts,
             out,
             Message::NotDeclared(a.name),
             a.span,
             a.value.sink,
         );
     };
-    check_kind(texts, out, a, symbol.kind)
+    check_kind(sema.texts, out, a, symbol.kind)
 }
 
 // The value, and then the target. The scratch stays as it is.
@@ -220,7 +212,7 @@ pub fn assignment(
         value,
         span: span_at(texts.tree, value.next),
     };
-    let s = check_target(texts, scratch, out, 9 - left, a);
+    let s = check_target(sema, out, a);
     After {
         next: value.next + 8,
         sink: s,
@@ -251,16 +243,12 @@ fn define(
             sink,
         );
     }
-    let count = usize::from(texts.tree[at]);
-    tables::define_function(
-        scratch,
-        texts.tree,
-        f.name,
-        at + 1,
-        count,
-        f.return_type,
-        f.span,
-    );
+    let sig = FunctionSig {
+        param_count: texts.tree[at],
+        return_type: f.return_type,
+        decl_span: f.span,
+    };
+    tables::define_function(scratch, texts.tree, f.name, at + 1, sig);
     sink
 }
 

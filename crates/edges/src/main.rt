@@ -35,7 +35,7 @@ impl fmt::Display for Answer {
 type Row = (&'static str, Option<Int128>);
 
 fn plus(n: u64) -> Int128 {
-    Int128::from_u64(n)
+    Int128::from(n)
 }
 
 fn minus(n: u64) -> Int128 {

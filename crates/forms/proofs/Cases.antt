@@ -1,15 +1,15 @@
 -- Expressions by their levels, and the cases of expressions and modifiers. Assumes nothing.
-use Rattle.std.proofs.Common.{◌≡◌, refl, sym, ap, ◌∙◌, ℕ, zero, suc, ◌-◌, ◌≤◌, List, [], ◌∷◌, get_or, sub-one, arith}
-use native.Mathlib.Decide.{ℕ_discrete}
+use Rattle.std.proofs.Common.{◌≡◌, refl, ℕ, zero, suc, ◌-◌, List, [], ◌∷◌, get_or, sub-one, arith}
+use Rattle.std.proofs.lemmas.Grind.{common_steps}
 use Rattle.span.specs.declared.Span.{Span}
-use Rattle.ast.specs.Tree.{Text, GateModifier}
-use Rattle.tree.specs.Ans.{Ans, ok, refused, bind, ◌>>=◌, here, done, refuse}
+use Rattle.ast.specs.Tree.{Text, Expr, GateModifier}
+use Rattle.tree.specs.Ans.{Ans, ok, refused, Reader, bind, ◌>>=◌, here, done, refuse}
 use Rattle.ast.specs.declared.ClassicalQualifier.TheVariants.{Const, Input, Output}
 use Rattle.tree.specs.Read.{span, case_byte, one_of}
 use Rattle.tree.specs.Stmts.{qualifier, inv}
-use Rattle.tree.specs.Exprs.{binary, compare, expr_cases, expr}
+use Rattle.tree.specs.Exprs.{binary, bin_op, compare, compare_op, const, const_kind, expr_cases, expr}
 use Rattle.reading.specs.Answers.{forget}
-use Rattle.reading.proofs.Cases.{case-below}
+use Rattle.forms.specs.Pairs.{pair}
 
 -- a qualifier is read as its case byte
 pub qualifier_is : (s : List ℕ) (at : ℕ) → forget (case_byte 3 s at) ≡ forget (qualifier s at)
@@ -51,16 +51,21 @@ module _ (t : List Text) (left : ℕ) (s : List ℕ) (at : ℕ) where
         go zero d = absurd (d refl)
         go (suc left) d = rw (e, sub-one)
 
-    -- an operation or a comparison, by the number of operators
-    pub expr-pair : (left ≡ 0 → ⊥) → 8 ≤ b → (ops : ℕ) → (b ≡ 8 → ops ≡ 5) × ((b ≡ 8 → ⊥) → ops ≡ 6) → (r : Ans (Unit {0}))
-        → (ops ≡ 5 → r ≡ forget (binary t (expr t (left - 1)) s k)) → (ops ≡ 6 → r ≡ forget (compare t (expr t (left - 1)) s k)) → r ≡ forget (expr t left s at)
-    unfolding expr_cases
-    expr-pair deep l ops o r f g = go (ℕ_discrete b 8)
-      where
-        go : Dec (b ≡ 8) → r ≡ forget (expr t left s at)
-        go (yes z) = f (o.0 z) ∙ ap forget (sym (expr-arm deep ∙ rw z refl))
-        go (no z) = let nine : b ≡ 9 = omega (arith, case-below 10 s at b k e) in g (o.1 z) ∙ ap forget (sym (expr-arm deep ∙ rw nine refl))
+-- an operation and a comparison, of which the operator is read first
+module _ (t : List Text) (inner : Reader Expr) (s : List ℕ) (at : ℕ) where
+  pub binary_is : forget (binary t inner s at) ≡ bind (case_byte 5 s at) (λ o. pair inner s)
+  unfolding binary bin_op one_of pair done ◌>>=◌ bind forget
+  binary_is = grind (arith, common_steps)
 
-pub ruleset exprs = (expr-refused, expr-over, expr-arm)
+  pub compare_is : forget (compare t inner s at) ≡ bind (case_byte 6 s at) (λ o. pair inner s)
+  unfolding compare compare_op one_of pair done ◌>>=◌ bind forget
+  compare_is = grind (arith, common_steps)
+
+-- `unfolding(..)` of an attribute takes no `const`
+pub const_is : (t : List Text) (s : List ℕ) (at : ℕ) → forget (const t s at) ≡ bind (case_byte 3 s at) (λ b k. forget (span s k))
+unfolding const const_kind one_of done ◌>>=◌ bind forget
+const_is t s at = grind (arith, common_steps)
+
+pub ruleset exprs = (expr-refused, expr-over, expr-arm, binary_is, compare_is)
 
 pub ruleset modifiers = inv_is

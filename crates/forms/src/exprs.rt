@@ -1,17 +1,19 @@
 // Expressions. A case's function starts behind the case byte; `left` is how many levels are left below.
-#![tactic(auto, unfolding(reading::specs::Answers::forget, tree::specs::Ans::bind, tree::specs::Ans::here, tree::specs::Ans::done, tree::specs::Read::one_of, tree::specs::Exprs::int_lit, tree::specs::Exprs::float_lit, tree::specs::Exprs::bool_lit, tree::specs::Exprs::ident, tree::specs::Exprs::index, tree::specs::Exprs::call, tree::specs::Exprs::neg, tree::specs::Exprs::binary, tree::specs::Exprs::compare, tree::specs::Exprs::const_kind, tree::specs::Exprs::bin_op, tree::specs::Exprs::compare_op, tree::specs::Read::bool), using(reading::proofs::Steps::steps))]
+#![tactic(auto, unfolding(reading::specs::Answers::forget, tree::specs::Ans::bind, tree::specs::Ans::here, tree::specs::Ans::done, tree::specs::Read::one_of, tree::specs::Exprs::int_lit, tree::specs::Exprs::float_lit, tree::specs::Exprs::bool_lit, tree::specs::Exprs::ident, tree::specs::Exprs::index, tree::specs::Exprs::call, tree::specs::Exprs::neg, tree::specs::Read::bool, crate::specs::Pairs::pair), using(reading::proofs::Steps::steps, reading::proofs::Held::skips))]
 
 ghost use Rattle.std.specs.Prelude.{◌≡◌};
+ghost use Rattle.tree.specs.Ans.{bind};
 ghost use Rattle.tree.specs.Limits.{expr_levels};
-ghost use Rattle.tree.specs.Read.{option};
-ghost use Rattle.tree.specs.Exprs.{int_lit, float_lit, bool_lit, ident, index, call, const, neg, binary, compare, expr, exprs};
+ghost use Rattle.tree.specs.Read.{case_byte, option};
+ghost use Rattle.tree.specs.Exprs.{int_lit, float_lit, bool_lit, ident, index, call, const, neg, expr, exprs};
 ghost use Rattle.reading.specs.Answers.{answer, forget};
 ghost use Rattle.reading.specs.Sources.{in_file};
 ghost use Rattle.tree.specs.Decode.{texts_of};
+ghost use Rattle.forms.specs.Pairs.{pair};
 
 use reading::answers::{Read, refuse};
-use reading::containers::read_option;
-use reading::numbers::{FLAGS, pass_span, read_case, read_count, read_u64};
+use reading::containers::{read_option, read_vec};
+use reading::numbers::{FLAGS, pass_span, read_case, read_u64};
 use reading::source::Source;
 use reading::texts::{read_float, read_name};
 use refusal::Refusal;
@@ -29,41 +31,25 @@ const COMPARE_OPS: u8 = 6;
 fn read_int_lit(s: &[u8], at: usize) -> Read<()>
     ensures { answer result ≡ forget (int_lit (texts_of s.now) s.now at) }
 {
-    let a = read_u64(s, at);
-    let Read::At(_, k) = a else {
-        return a.into_place();
-    };
-    pass_span(s, k)
+    read_u64(s, at).then_span(s)
 }
 
 fn read_float_lit(source: &Source, at: usize) -> Read<()>
     ensures { answer result ≡ forget (in_file float_lit source.now at) }
 {
-    let a = read_float(source, at);
-    let Read::At(_, k) = a else {
-        return a.into_place();
-    };
-    pass_span(source.bytes, k)
+    read_float(source, at).then_span(source.bytes)
 }
 
 fn read_bool_lit(s: &[u8], at: usize) -> Read<()>
     ensures { answer result ≡ forget (bool_lit (texts_of s.now) s.now at) }
 {
-    let a = read_case(s, at, FLAGS);
-    let Read::At(_, k) = a else {
-        return a.into_place();
-    };
-    pass_span(s, k)
+    read_case(s, at, FLAGS).then_span(s)
 }
 
 fn read_ident(source: &Source, at: usize) -> Read<()>
     ensures { answer result ≡ forget (in_file ident source.now at) }
 {
-    let a = read_name(source, at);
-    let Read::At(_, k) = a else {
-        return a.into_place();
-    };
-    pass_span(source.bytes, k)
+    read_name(source, at).then_span(source.bytes)
 }
 
 fn read_index(source: &Source, at: usize) -> Read<()>
@@ -80,14 +66,11 @@ fn read_index(source: &Source, at: usize) -> Read<()>
     pass_span(source.bytes, l)
 }
 
+#[tactic(auto, unfolding(reading::specs::Answers::forget, tree::specs::Ans::bind), using(reading::proofs::Steps::steps, crate::proofs::Cases::const_is))]
 fn read_const(s: &[u8], at: usize) -> Read<()>
     ensures { answer result ≡ forget (const (texts_of s.now) s.now at) }
 {
-    let a = read_case(s, at, CONST_KINDS);
-    let Read::At(_, k) = a else {
-        return a.into_place();
-    };
-    pass_span(s, k)
+    read_case(s, at, CONST_KINDS).then_span(s)
 }
 
 #[cycle(exprs)]
@@ -109,65 +92,54 @@ fn read_call(source: &Source, at: usize, left: usize) -> Read<()>
 fn read_neg(source: &Source, at: usize, left: usize) -> Read<()>
     ensures { answer result ≡ forget (in_file (λ t. neg t (expr t left)) source.now at) }
 {
-    let a = read_expr(source, at, left);
-    let Read::At(_, k) = a else {
+    read_expr(source, at, left).then_span(source.bytes)
+}
+
+// The operator behind this case byte, of an operation or a comparison. One function, so that `read_pair` has one call: with two it is
+// not compiled into its caller.
+fn read_operator(s: &[u8], at: usize, case: u8) -> Read<u8>
+    ensures binary { case ≡ 8 → answer result ≡ case_byte 5 s.now at }
+    ensures compare { (case ≡ 8 → ⊥) → answer result ≡ case_byte 6 s.now at }
+{
+    if case == 8 {
+        return read_case(s, at, BIN_OPS);
+    }
+    read_case(s, at, COMPARE_OPS)
+}
+
+// The two operands of an operator that was read, of an operation or a comparison.
+#[cycle(exprs)]
+fn read_pair(source: &Source, op: Read<u8>, left: usize) -> Read<()>
+    ensures { answer result ≡ bind (answer op) (λ o. in_file (λ t. pair (expr t left)) source.now) }
+{
+    let Read::At(_, k) = op else {
+        return op.into_place();
+    };
+    let a = read_expr(source, k, left);
+    let Read::At(_, l) = a else {
         return a;
     };
-    pass_span(source.bytes, k)
-}
-
-// How many operators there are behind this case byte, of an operation or a comparison.
-fn operators(case: u8) -> u8
-    ensures { (case ≡ 8 → result ≡ 5) × ((case ≡ 8 → ⊥) → result ≡ 6) }
-{
-    if case == 8 { BIN_OPS } else { COMPARE_OPS }
-}
-
-// An operator, one of so many, and its two operands.
-#[cycle(exprs)]
-fn read_pair(source: &Source, at: usize, left: usize, ops: u8) -> Read<()>
-    ensures binary { ops ≡ 5 → answer result ≡ forget (in_file (λ t. binary t (expr t left)) source.now at) }
-    ensures compare { ops ≡ 6 → answer result ≡ forget (in_file (λ t. compare t (expr t left)) source.now at) }
-{
-    let a = read_case(source.bytes, at, ops);
-    let Read::At(_, k) = a else {
-        return a.into_place();
-    };
-    let b = read_expr(source, k, left);
-    let Read::At(_, l) = b else {
+    let b = read_expr(source, l, left);
+    let Read::At(_, m) = b else {
         return b;
-    };
-    let c = read_expr(source, l, left);
-    let Read::At(_, m) = c else {
-        return c;
     };
     pass_span(source.bytes, m)
 }
 
-// Expressions behind their count. A loop of its own, and no `read_vec`: a closure in a cycle of calls gets no proof.
+// Expressions behind their count.
 #[cycle(exprs)]
-#[tactic(auto, unfolding(reading::specs::Answers::forget), using(reading::proofs::Held::vecs))]
 fn read_args(source: &Source, at: usize, left: usize) -> Read<()>
     ensures { answer result ≡ forget (in_file (λ t. exprs (expr t left)) source.now at) }
 {
-    let a = read_count(source.bytes, at);
-    let Read::At(n, first) = a else {
-        return a.into_place();
-    };
-    let mut k = first;
-    for _ in 0..n {
-        let b = read_expr(source, k, left);
-        let Read::At(_, next) = b else {
-            return b;
-        };
-        k = next;
-    }
-    Read::At((), k)
+    let read = |k|
+        ensures { answer result ≡ forget (in_file (λ t. expr t left) source.entry.now k) }
+    { read_expr(source, k, left) };
+    read_vec(source.bytes, at, read)
 }
 
 // An expression with so many levels left.
 #[cycle(exprs)]
-#[tactic(auto, unfolding(reading::specs::Answers::forget, tree::specs::Exprs::expr_cases), using(reading::proofs::Steps::steps, crate::proofs::Cases::exprs))]
+#[tactic(auto, unfolding(reading::specs::Answers::forget, tree::specs::Exprs::expr_cases), using(reading::proofs::Steps::steps, reading::proofs::Cases::case_bytes, crate::proofs::Cases::exprs))]
 fn read_expr(source: &Source, at: usize, left: usize) -> Read<()>
     ensures { answer result ≡ forget (in_file (λ t. expr t left) source.now at) }
 {
@@ -189,7 +161,7 @@ fn read_expr(source: &Source, at: usize, left: usize) -> Read<()>
         5 => read_call(source, k, left - 1),
         6 => read_const(s, k),
         7 => read_neg(source, k, left - 1),
-        _ => read_pair(source, k, left - 1, operators(b)),
+        _ => read_pair(source, read_operator(s, k, b), left - 1),
     }
 }
 

@@ -1,5 +1,5 @@
 // Operands, modifiers, ranges and parameters.
-#![tactic(auto, unfolding(reading::specs::Answers::forget, tree::specs::Ans::bind, tree::specs::Ans::here, tree::specs::Ans::done, tree::specs::Read::one_of, tree::specs::Stmts::operand, tree::specs::Stmts::ctrl, tree::specs::Stmts::neg_ctrl, tree::specs::Stmts::inv, tree::specs::Stmts::pow, tree::specs::Stmts::for_range, tree::specs::Stmts::param, tree::specs::Stmts::classical_type), using(reading::proofs::Steps::steps))]
+#![tactic(auto, unfolding(reading::specs::Answers::forget, tree::specs::Ans::bind, tree::specs::Ans::here, tree::specs::Ans::done, tree::specs::Read::one_of, tree::specs::Stmts::operand, tree::specs::Stmts::ctrl, tree::specs::Stmts::neg_ctrl, tree::specs::Stmts::inv, tree::specs::Stmts::pow, tree::specs::Stmts::for_range, tree::specs::Stmts::param, tree::specs::Stmts::classical_type), using(reading::proofs::Steps::steps, reading::proofs::Held::skips))]
 
 ghost use Rattle.std.specs.Prelude.{◌≡◌};
 ghost use Rattle.tree.specs.Read.{case_byte, option, vec};
@@ -52,6 +52,7 @@ pub fn read_type(s: &[u8], at: usize) -> Read<u8>
     read_case(s, at, TYPES)
 }
 
+#[tactic(auto, unfolding(reading::specs::Answers::forget), using(reading::proofs::Held::skips, crate::proofs::Cases::qualifier_is))]
 pub(crate) fn read_optional_qualifier(s: &[u8], at: usize) -> Read<()>
     ensures { answer result ≡ forget (option qualifier s.now at) }
 {
@@ -63,21 +64,13 @@ fn read_ctrl(source: &Source, at: usize) -> Read<()>
     ensures ctrl { answer result ≡ forget (in_file ctrl source.now at) }
     ensures neg_ctrl { answer result ≡ forget (in_file neg_ctrl source.now at) }
 {
-    let a = read_optional_held(source, at);
-    let Read::At(_, k) = a else {
-        return a;
-    };
-    pass_span(source.bytes, k)
+    read_optional_held(source, at).then_span(source.bytes)
 }
 
 fn read_pow(source: &Source, at: usize) -> Read<()>
     ensures { answer result ≡ forget (in_file pow source.now at) }
 {
-    let a = read_held(source, at);
-    let Read::At(_, k) = a else {
-        return a;
-    };
-    pass_span(source.bytes, k)
+    read_held(source, at).then_span(source.bytes)
 }
 
 #[tactic(auto, unfolding(reading::specs::Answers::forget, tree::specs::Ans::bind, tree::specs::Ans::here, tree::specs::Ans::done, tree::specs::Stmts::modifier), using(reading::proofs::Steps::steps, reading::proofs::Cases::case_bytes, crate::proofs::Cases::modifiers))]

@@ -22,11 +22,7 @@ pub fn read_include(source: &Source, at: usize) -> Read<()>
     requires { at < length source.now.bytes.now }
     ensures { answer result ≡ forget (in_file (λ t. include t at) source.now (at + 1)) }
 {
-    let a = read_path(source, at + 1);
-    let Read::At(_, k) = a else {
-        return a.into_place();
-    };
-    pass_span(source.bytes, k)
+    read_path(source, at + 1).then_span(source.bytes)
 }
 
 // A declaration of qubits or of bits: both have the same fields.
@@ -152,22 +148,14 @@ pub fn read_reset(source: &Source, at: usize) -> Read<()>
     requires { at < length source.now.bytes.now }
     ensures { answer result ≡ forget (in_file (λ t. reset t at) source.now (at + 1)) }
 {
-    let a = read_operand(source, at + 1);
-    let Read::At(_, k) = a else {
-        return a;
-    };
-    pass_span(source.bytes, k)
+    read_operand(source, at + 1).then_span(source.bytes)
 }
 
 pub fn read_barrier(source: &Source, at: usize) -> Read<()>
     requires { at < length source.now.bytes.now }
     ensures { answer result ≡ forget (in_file (λ t. barrier t at) source.now (at + 1)) }
 {
-    let a = read_operands(source, at + 1);
-    let Read::At(_, k) = a else {
-        return a;
-    };
-    pass_span(source.bytes, k)
+    read_operands(source, at + 1).then_span(source.bytes)
 }
 
 pub fn read_delay(source: &Source, at: usize) -> Read<()>

@@ -6,8 +6,8 @@ ghost use Rattle.gates.specs.Gates.{lower, signature_of};
 
 #[derive(Clone, Copy)]
 pub struct StandardGate {
-    pub params: usize,
-    pub qubits: usize,
+    pub params: u8,
+    pub qubits: u8,
 }
 
 // By a name whose letters are lowered.

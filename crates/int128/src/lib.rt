@@ -2,6 +2,7 @@
 #![tactic(auto)]
 
 ghost use Rattle.std.specs.Prelude.{◌≡◌, not, ◌≤◌, ◌<◌, ◌+◌, ◌-◌, ◌*◌, ◌/◌, ◌%◌, ◌^◌, neg_ℤ, ◌+ℤ◌, ◌-ℤ◌, ◌*ℤ◌, false};
+ghost use Rattle.std.specs.Result.{result_ok};
 ghost use Rattle.int128.specs.Whole.{magnitude, magnitude_of, signed, value_of, int128, checked, divided, powered, positive, word_of};
 
 #[derive(Clone, Copy)]
@@ -22,6 +23,10 @@ pub struct Division {
     pub quotient: Words,
     pub remainder: Words,
 }
+
+// An integer that is no u64.
+#[derive(Clone, Copy, Debug, PartialEq, Eq)]
+pub struct OutOfRange;
 
 const ZERO: Words = Words { hi: 0, lo: 0 };
 
@@ -181,16 +186,34 @@ fn differ(neg: bool, a: Words, b: Words) -> Option<Int128>
     }
 }
 
-impl Int128 {
-    pub fn from_u64(value: u64) -> Self
-        ensures { result ≡ int128 false value }
-    {
+impl From<u64> for Int128 {
+    ghost from_gives = { λ value i. i ≡ int128 false value };
+
+    fn from(value: u64) -> Self {
         Self {
             neg: false,
             words: Words { hi: 0, lo: value },
         }
     }
+}
 
+impl TryFrom<Int128> for u64 {
+    type Error = OutOfRange;
+
+    ghost try_from_gives = { λ i r. result_ok r ≡ word_of (value_of i) };
+
+    #[tactic(auto, unfolding(crate::specs::Whole::word_of))]
+    fn try_from(i: Int128) -> Result<u64, OutOfRange> {
+        let Words { hi, lo } = i.words;
+        if hi == 0 && (lo == 0 || !i.neg) {
+            Ok(lo)
+        } else {
+            Err(OutOfRange)
+        }
+    }
+}
+
+impl Int128 {
     pub fn checked_neg(self) -> Option<Self>
         ensures { result ≡ checked (neg_ℤ (value_of self)) }
     {
@@ -240,7 +263,8 @@ impl Int128 {
     pub fn checked_pow(self, exponent: Self) -> Option<Self>
         ensures { result ≡ powered (value_of self) (value_of exponent) }
     {
-        let n = u32::try_from(exponent.to_u64()?).ok()?;
+        let n = u64::try_from(exponent).ok()?;
+        let n = u32::try_from(n).ok()?;
         let power = pow_words(self.words, n)?;
         fit(self.neg && n % 2 == 1, power)
     }
@@ -250,13 +274,5 @@ impl Int128 {
         ensures { result ≡ positive (value_of self) }
     {
         !self.neg && self.words != ZERO
-    }
-
-    #[tactic(auto, unfolding(crate::specs::Whole::word_of))]
-    pub fn to_u64(self) -> Option<u64>
-        ensures { result ≡ word_of (value_of self) }
-    {
-        let Words { hi, lo } = self.words;
-        (hi == 0 && (lo == 0 || !self.neg)).then_some(lo)
     }
 }

@@ -1,4 +1,3 @@
 pub mod Decimals
 pub mod Sink
-pub mod Texts
 pub mod Lines

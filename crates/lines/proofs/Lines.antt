@@ -27,6 +27,10 @@ said-all w = record { wrote = w; within = omega (arith, w.after) }
 pub shown-said : {o b v xs : List ℕ} {n k i : ℕ} → Shown v xs i → Wrote o n b k v → Said o n b k xs i
 shown-said d w = rw (← d.shows) (record { wrote = w; within = omega (arith, w.after, d.short) })
 
+-- the last of a text
+pub said-end : {o b xs : List ℕ} {n k i : ℕ} → Said o n b k xs i → Said o n b k (xs ++ []) i
+said-end {xs = xs} s = rw (append-nil xs) s
+
 pub then_said : {o b b' xs ys : List ℕ} {n k k' i j : ℕ} → Said o n b k xs i → Said b k b' k' ys j → Said o n b' k' (xs ++ ys) (i + j)
 then_said u w = record { wrote = wrote_then u.wrote w.wrote; within = omega (arith, u.within, w.within) }
 

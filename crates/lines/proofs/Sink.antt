@@ -1,47 +1,17 @@
 -- A sink that stores where there is room and always advances: what is left to write. Assumes nothing.
 use Prim.Native.Nat.{ℕ, zero, suc, ◌<◌, ◌≤◌, ◌+◌, ◌-◌, min}
-use mathlib.Core.Path.{◌≡◌, refl, sym, ap, ◌∙◌}
+use mathlib.Core.Path.{◌≡◌, refl, ap, ◌∙◌}
 use mathlib.Core.List.{List, [], ◌∷◌, ◌++◌, append_assoc}
 use mathlib.Core.Logic.{⊎_elim}
 use native.Mathlib.Omega.{arith}
-use native.Mathlib.Numerals.{add-one}
-use native.Mathlib.Nat.{add-zero}
-use lib.ListN.{length, get_or, take, drop, set, length-set, length-append}
-use lib.Seq.{sets, drop-cons, set_out, take-nil, take-length, length-take-le}
+use lib.ListN.{length, take, drop, set, length-set, length-append}
+use lib.Seq.{sets, set_out, take-nil, take-length, length-take-le}
 use borrow.Rule.Slice.PartMut.{put_mid, put_same}
 use Rattle.std.proofs.lemmas.List.{drop-drop}
 use Rattle.std.proofs.lemmas.List.Edits.{sets-eq}
 use Rattle.text.proofs.Order.{le-or-lt}
 use Rattle.text.proofs.Sets.{sets-append}
 use Rattle.lines.specs.Stored.{Wrote}
-
--- of the list m, to be stored in o from n on, the rest is still to be stored in b from k on
-pub record Left (o : List ℕ) (n : ℕ) (m : List ℕ) (b : List ℕ) (k : ℕ) (rest : List ℕ) : Type 0 where
-  pub same : sets o n m ≡ sets b k rest
-  pub long : n + length m ≡ k + length rest
-
-pub left-all : (o : List ℕ) (n : ℕ) (m : List ℕ) → Left o n m o n m
-left-all o n m = record { same = refl; long = refl }
-
-pub left-start : (o : List ℕ) (n : ℕ) (m : List ℕ) → Left o n m o (n + 0) m
-left-start o n m = rw (add-zero n) (left-all o n m)
-
-module _ {o : List ℕ} {n : ℕ} {m b : List ℕ} {k : ℕ} where
-  pub left_as : {rest rest' : List ℕ} → Left o n m b k rest → rest ≡ rest' → Left o n m b k rest'
-  left_as s e = rw e at s
-
-  -- the first of the rest was stored
-  pub left_step : {b' : List ℕ} {k' : ℕ} (xs rest : List ℕ) → Left o n m b k (xs ++ rest) → Wrote b k b' k' xs → Left o n m b' k' rest
-  left_step xs rest s w =
-      record { same = s.same ∙ sets-append xs rest b k ∙ rw (w.holds, w.after); long = omega (arith, s.long, length-append xs rest, w.after) }
-
-  pub left-none : Left o n m b k [] → Wrote o n b k m
-  left-none s = record { holds = sym s.same; after = omega (arith, s.long) }
-
--- one element of the rest is stored
-pub left_put : {o : List ℕ} {n : ℕ} {m b : List ℕ} {k : ℕ} (s : List ℕ) (i : ℕ) (b' : List ℕ) → Left o n m b k (drop i s) → i < length s → b' ≡ set b k (get_or s i 0) → Left o n m b' (k + 1) (drop (i + 1) s)
-left_put {o} {n} {m} {b} {k} s i b' l h e =
-    left_step (get_or s i 0 ∷ []) (drop (i + 1) s) (left_as l (rw (add-one) (drop-cons s i 0 h))) (record { holds = e; after = refl })
 
 -- what is past the end is not stored
 pub sets-cut : (xs l : List ℕ) (i k : ℕ) → length l ≤ i + k → sets l i (take k xs) ≡ sets l i xs
@@ -83,10 +53,3 @@ copied {o} {s} {ys} {n} {a} {e} p q r = record { holds = rw r holds; after = ref
         (λ (g : n + length s < length o). let z : e - a ≡ length s = omega arith in rw (z, x) (copied-whole o s n (omega arith)))
         (le-or-lt (length o) (n + length s)))
         (le-or-lt (length o) n)
-
--- a byte is stored where there is room
-pub put-in : {o : List ℕ} {n b : ℕ} → Wrote o n (set o n b) (n + 1) (b ∷ [])
-put-in = record { holds = refl; after = refl }
-
-pub put-out : {o : List ℕ} {n : ℕ} (b : ℕ) → length o ≤ n → Wrote o n o (n + 1) (b ∷ [])
-put-out {o} {n} b h = record { holds = sym (set_out o n b h); after = refl }

@@ -1,6 +1,5 @@
--- What words and values say, and how many bytes they may take.
-use Rattle.std.specs.Prelude.{ℕ, ◌+◌, ◌<◌, List, [], ◌∷◌, ◌++◌, length}
-use Rattle.std.specs.Borrow.{Bor}
+-- What values say, and how many bytes they may take.
+use Rattle.std.specs.Prelude.{ℕ, ◌+◌, ◌<◌, List, [], ◌∷◌, ◌++◌}
 use Rattle.text.specs.Decimal.{decimal}
 use Rattle.types.specs.Names as types
 use Rattle.span.specs.declared.Span.{Span}
@@ -27,17 +26,6 @@ value_room (Value.ExpectedName e) = 16
 value_room (Value.PlaceName p) = 32
 value_room (Value.Number v) = 20
 value_room (Value.Sum a b) = 39
-
--- words and values in turn, words first and last
-abbrev pub joined : List Text → List (Bor (List ℕ)) → List Value → List ℕ
-joined t [] vs = []
-joined t (w ∷ ws) [] = w.now
-joined t (w ∷ ws) (v ∷ vs) = w.now ++ (value_text t v ++ joined t ws vs)
-
-abbrev pub room : List (Bor (List ℕ)) → List Value → ℕ
-room [] vs = 0
-room (w ∷ ws) [] = length w.now
-room (w ∷ ws) (v ∷ vs) = length w.now + (value_room v + room ws vs)
 
 -- a text number is below the number of texts
 abbrev pub Named : ℕ → Value → Type 0

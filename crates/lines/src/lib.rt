@@ -21,21 +21,21 @@ use messages::{store_message, store_note};
 use pieces::{copy, numbers, put};
 use span::Span;
 
-#[derive(Clone, Copy)]
+#[derive(Clone, Copy, Debug, PartialEq, Eq)]
 pub enum Severity {
     Error,
     Warning,
 }
 
 // What an operand is expected to be.
-#[derive(Clone, Copy)]
+#[derive(Clone, Copy, Debug, PartialEq, Eq)]
 pub enum Expected {
     Qubit,
     Bit,
 }
 
 // Where a type is required.
-#[derive(Clone, Copy)]
+#[derive(Clone, Copy, Debug, PartialEq, Eq)]
 pub enum Place {
     IfCondition,
     WhileCondition,
@@ -127,10 +127,8 @@ pub fn error_with_note(message: Message, span: Span, note: Note, at: Span) -> Di
     ensures { result ≡ error_with_note_of message span note at }
 {
     Diagnostic {
-        severity: Severity::Error,
-        message,
-        span,
         secondary: Some((note, at)),
+        ..error(message, span)
     }
 }
 
@@ -139,9 +137,7 @@ pub fn warning(message: Message, span: Span) -> Diagnostic
 {
     Diagnostic {
         severity: Severity::Warning,
-        message,
-        span,
-        secondary: None,
+        ..error(message, span)
     }
 }
 
@@ -195,21 +191,19 @@ fn counted(sink: Sink, severity: Severity, n: usize) -> Sink
 {
     // n is at most 1,048,576: TryFrom would add an error that no n gives.
     let n = n as u32;
-    match severity {
-        Severity::Error => Sink {
-            n,
-            errors: sink.errors + 1,
-            warnings: sink.warnings,
-        },
-        Severity::Warning => Sink {
-            n,
-            errors: sink.errors,
-            warnings: sink.warnings + 1,
-        },
+    let (errors, warnings) = match severity {
+        Severity::Error => (sink.errors + 1, sink.warnings),
+        Severity::Warning => (sink.errors, sink.warnings + 1),
+    };
+    Sink {
+        n,
+        errors,
+        warnings,
     }
 }
 
 // Writes a diagnostic behind what is written; one past the limit adds nothing. The walk over an accepted tree meets what is required.
+// The sink is state, so it goes by value beside the listing, which is lent.
 pub fn report(out: &mut [u8], sink: Sink, texts: Texts<'_>, d: Diagnostic) -> Sink
     requires { Fits (length (texts_of texts.tree.now)) d }
     ensures { Reported (texts_of texts.entry.tree.now) d sink out.old result out.new }

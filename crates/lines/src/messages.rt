@@ -77,13 +77,11 @@ pub(crate) fn store_message(texts: &Texts, out: &mut [u8], n: usize, message: Me
             b"` is already declared in this scope",
         ),
         Message::NotDeclared(x) => named(texts, out, n, b"`", x, b"` is not declared"),
-        Message::ExpectedKind(e, x, k) => say(
-            texts,
-            out,
-            n,
-            &[b"expected ", b", but `", b"` is a ", b""],
-            &[ExpectedName(e), Name(x), KindName(k)],
-        ),
+        Message::ExpectedKind(e, x, k) => {
+            let p = say(texts, out, n, b"expected ", ExpectedName(e));
+            let q = say(texts, out, p, b", but `", Name(x));
+            say(texts, out, q, b"` is a ", KindName(k))
+        }
         Message::CannotIndexGateQubit(x) => named(
             texts,
             out,
@@ -92,13 +90,12 @@ pub(crate) fn store_message(texts: &Texts, out: &mut [u8], n: usize, message: Me
             x,
             b"` \xe2\x80\x94 gate qubits are single wires",
         ),
-        Message::IndexOutOfBounds(i, x, size) => say(
-            texts,
-            out,
-            n,
-            &[b"index ", b" is out of bounds for `", b"` (size ", b")"],
-            &[Number(i), Name(x), Number(size)],
-        ),
+        Message::IndexOutOfBounds(i, x, size) => {
+            let p = say(texts, out, n, b"index ", Number(i));
+            let q = say(texts, out, p, b" is out of bounds for `", Name(x));
+            let r = say(texts, out, q, b"` (size ", Number(size));
+            copy(out, r, b")")
+        }
         Message::CannotIndex(x) => named(
             texts,
             out,
@@ -107,27 +104,19 @@ pub(crate) fn store_message(texts: &Texts, out: &mut [u8], n: usize, message: Me
             x,
             b"` \xe2\x80\x94 it is a single qubit/bit, not a register",
         ),
-        Message::SliceOutOfBounds(a, b, x, size) => say(
-            texts,
-            out,
-            n,
-            &[
-                b"slice ",
-                b":",
-                b" is out of bounds for `",
-                b"` (size ",
-                b")",
-            ],
-            &[Number(a), Number(b), Name(x), Number(size)],
-        ),
+        Message::SliceOutOfBounds(a, b, x, size) => {
+            let p = say(texts, out, n, b"slice ", Number(a));
+            let q = say(texts, out, p, b":", Number(b));
+            let r = say(texts, out, q, b" is out of bounds for `", Name(x));
+            let s = say(texts, out, r, b"` (size ", Number(size));
+            copy(out, s, b")")
+        }
         Message::CannotSlice(x) => named(texts, out, n, b"cannot slice scalar `", x, b"`"),
-        Message::UsedIndex(x, i) => say(
-            texts,
-            out,
-            n,
-            &[b"use of qubit `", b"[", b"]` after measurement"],
-            &[Name(x), Number(i)],
-        ),
+        Message::UsedIndex(x, i) => {
+            let p = say(texts, out, n, b"use of qubit `", Name(x));
+            let q = say(texts, out, p, b"[", Number(i));
+            copy(out, q, b"]` after measurement")
+        }
         Message::Used(op) => around(
             texts,
             out,
@@ -152,20 +141,18 @@ pub(crate) fn store_message(texts: &Texts, out: &mut [u8], n: usize, message: Me
             x,
             b"` cannot have an initializer",
         ),
-        Message::CannotInitialize(ty, x, a) => say(
-            texts,
-            out,
-            n,
-            &[b"cannot initialize ", b" `", b"` with ", b" expression"],
-            &[TypeName(ty), Name(x), TypeName(a)],
-        ),
-        Message::CannotAssign(a, e, x) => say(
-            texts,
-            out,
-            n,
-            &[b"cannot assign ", b" expression to ", b" `", b"`"],
-            &[TypeName(a), TypeName(e), Name(x)],
-        ),
+        Message::CannotInitialize(ty, x, a) => {
+            let p = say(texts, out, n, b"cannot initialize ", TypeName(ty));
+            let q = say(texts, out, p, b" `", Name(x));
+            let r = say(texts, out, q, b"` with ", TypeName(a));
+            copy(out, r, b" expression")
+        }
+        Message::CannotAssign(a, e, x) => {
+            let p = say(texts, out, n, b"cannot assign ", TypeName(a));
+            let q = say(texts, out, p, b" expression to ", TypeName(e));
+            let r = say(texts, out, q, b" `", Name(x));
+            copy(out, r, b"`")
+        }
         Message::CompoundNumeric => copy(out, n, b"compound assignment requires numeric operands"),
         Message::AssignToConst(x) => named(texts, out, n, b"cannot assign to const `", x, b"`"),
         Message::NotAssignable(x) => named(
@@ -176,25 +163,22 @@ pub(crate) fn store_message(texts: &Texts, out: &mut [u8], n: usize, message: Me
             x,
             b"` is not an assignable classical variable",
         ),
-        Message::GateParams(x, expected, got) => say(
-            texts,
-            out,
-            n,
-            &[b"gate `", b"` expects ", b" parameter(s), got ", b""],
-            &[Name(x), Number(expected), Number(got)],
-        ),
-        Message::GateQubits(x, total, qubits, got) => say(
-            texts,
-            out,
-            n,
-            &[
-                b"gate `",
-                b"` expects ",
+        Message::GateParams(x, expected, got) => {
+            let p = say(texts, out, n, b"gate `", Name(x));
+            let q = say(texts, out, p, b"` expects ", Number(expected));
+            say(texts, out, q, b" parameter(s), got ", Number(got))
+        }
+        Message::GateQubits(x, total, qubits, got) => {
+            let p = say(texts, out, n, b"gate `", Name(x));
+            let q = say(texts, out, p, b"` expects ", Sum(total, qubits));
+            say(
+                texts,
+                out,
+                q,
                 b" qubit(s) after modifiers, got ",
-                b"",
-            ],
-            &[Name(x), Sum(total, qubits), Number(got)],
-        ),
+                Number(got),
+            )
+        }
         Message::GateNotDefined(x) => named(texts, out, n, b"gate `", x, b"` is not defined"),
         Message::ParamsNumeric => copy(out, n, b"gate parameters must be numeric"),
         Message::Broadcasting => copy(
@@ -218,29 +202,16 @@ pub(crate) fn store_message(texts: &Texts, out: &mut [u8], n: usize, message: Me
             x,
             b"` is already defined",
         ),
-        Message::FunctionReturns(x, r, a) => say(
-            texts,
-            out,
-            n,
-            &[
-                b"function `",
-                b"` returns ",
-                b", but its body has type ",
-                b"",
-            ],
-            &[Name(x), TypeName(r), TypeName(a)],
-        ),
-        Message::MeasurementWidths(a, b) => say(
-            texts,
-            out,
-            n,
-            &[
-                b"measurement source has ",
-                b" qubit(s), but target has ",
-                b" bit(s)",
-            ],
-            &[Number(a), Number(b)],
-        ),
+        Message::FunctionReturns(x, r, a) => {
+            let p = say(texts, out, n, b"function `", Name(x));
+            let q = say(texts, out, p, b"` returns ", TypeName(r));
+            say(texts, out, q, b", but its body has type ", TypeName(a))
+        }
+        Message::MeasurementWidths(a, b) => {
+            let p = say(texts, out, n, b"measurement source has ", Number(a));
+            let q = say(texts, out, p, b" qubit(s), but target has ", Number(b));
+            copy(out, q, b" bit(s)")
+        }
         Message::AlreadyMeasured(op) => around(
             texts,
             out,
@@ -257,13 +228,11 @@ pub(crate) fn store_message(texts: &Texts, out: &mut [u8], n: usize, message: Me
             b"control count must be a positive compile-time integer",
         ),
         Message::PowerNumeric => copy(out, n, b"power modifier argument must be numeric"),
-        Message::MustHaveType(place, e, a) => say(
-            texts,
-            out,
-            n,
-            &[b"", b" must have type ", b", found ", b""],
-            &[PlaceName(place), TypeName(e), TypeName(a)],
-        ),
+        Message::MustHaveType(place, e, a) => {
+            let p = say(texts, out, n, b"", PlaceName(place));
+            let q = say(texts, out, p, b" must have type ", TypeName(e));
+            say(texts, out, q, b", found ", TypeName(a))
+        }
         Message::NotClassical(x) => named(
             texts,
             out,
@@ -289,20 +258,17 @@ pub(crate) fn store_message(texts: &Texts, out: &mut [u8], n: usize, message: Me
             x,
             b"` is not defined",
         ),
-        Message::FunctionArguments(x, expected, got) => say(
-            texts,
-            out,
-            n,
-            &[b"function `", b"` expects ", b" argument(s), got ", b""],
-            &[Name(x), Number(expected), Number(got)],
-        ),
-        Message::ArgumentType(i, x, e, a) => say(
-            texts,
-            out,
-            n,
-            &[b"argument ", b" to `", b"` must be ", b", found ", b""],
-            &[Number(i), Name(x), TypeName(e), TypeName(a)],
-        ),
+        Message::FunctionArguments(x, expected, got) => {
+            let p = say(texts, out, n, b"function `", Name(x));
+            let q = say(texts, out, p, b"` expects ", Number(expected));
+            say(texts, out, q, b" argument(s), got ", Number(got))
+        }
+        Message::ArgumentType(i, x, e, a) => {
+            let p = say(texts, out, n, b"argument ", Number(i));
+            let q = say(texts, out, p, b" to `", Name(x));
+            let r = say(texts, out, q, b"` must be ", TypeName(e));
+            say(texts, out, r, b", found ", TypeName(a))
+        }
         Message::NegationNumeric => copy(out, n, b"unary negation requires a numeric operand"),
         Message::ArithmeticNumeric => copy(
             out,
@@ -321,20 +287,16 @@ pub(crate) fn store_note(texts: &Texts, out: &mut [u8], n: usize, note: Note) ->
 {
     match note {
         Note::FirstDeclared(x) => named(texts, out, n, b"`", x, b"` first declared here"),
-        Note::DeclaredAs(x, k) => say(
-            texts,
-            out,
-            n,
-            &[b"`", b"` declared as ", b" here"],
-            &[Name(x), KindName(k)],
-        ),
-        Note::DeclaredWithSize(x, size) => say(
-            texts,
-            out,
-            n,
-            &[b"`", b"` declared with size ", b" here"],
-            &[Name(x), Number(size)],
-        ),
+        Note::DeclaredAs(x, k) => {
+            let p = say(texts, out, n, b"`", Name(x));
+            let q = say(texts, out, p, b"` declared as ", KindName(k));
+            copy(out, q, b" here")
+        }
+        Note::DeclaredWithSize(x, size) => {
+            let p = say(texts, out, n, b"`", Name(x));
+            let q = say(texts, out, p, b"` declared with size ", Number(size));
+            copy(out, q, b" here")
+        }
         Note::DeclaredWithoutSize(x) => named(
             texts,
             out,

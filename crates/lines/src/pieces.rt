@@ -1,12 +1,11 @@
 // The pieces of lines, and their storing.
-ghost use Rattle.std.specs.Prelude.{◌≡◌, ◌<◌, ◌+◌, ◌++◌, ◌∷◌, [], length};
-ghost use Rattle.std.specs.List.{All};
+ghost use Rattle.std.specs.Prelude.{◌≤◌, ◌<◌, ◌+◌, ◌++◌, ◌∷◌, [], length};
 ghost use Rattle.text.specs.Decimal.{decimal};
 ghost use Rattle.tree.specs.Decode.{texts_of};
 ghost use Rattle.sema.specs.Messages.{name_at};
 ghost use Rattle.lines.specs.Stored.{Wrote, Said, Shown};
 ghost use Rattle.lines.specs.Readable.{Readable};
-ghost use Rattle.lines.specs.Texts.{Named, value_text, value_room, joined, room};
+ghost use Rattle.lines.specs.Texts.{Named, value_text, value_room};
 
 use super::{Expected, Place, words};
 use ast::ClassicalType;
@@ -103,24 +102,13 @@ fn piece<'a: 'b, 'b>(texts: &Texts<'a>, value: Value, digits: &'b mut Buffer) ->
     }
 }
 
-// Stores words and values in turn: words come first and last.
-pub(crate) fn say(
-    texts: &Texts,
-    out: &mut [u8],
-    n: usize,
-    words: &'static [&'static [u8]],
-    values: &[Value],
-) -> usize
-    requires turns { length words.now ≡ length values.now + 1 }
-    requires few { n + room words.now values.now < 9223372036854775808 }
-    requires named { All (Named (length (texts_of texts.now.tree.now))) values.now }
-    ensures { Said out.old n out.new result (joined (texts_of texts.now.tree.now) words.now values.now) (room words.now values.now) }
+// Stores words, and a value behind them.
+pub(crate) fn say(texts: &Texts, out: &mut [u8], n: usize, words: &[u8], value: Value) -> usize
+    requires few { (n < 2147483648) × (length words.now ≤ 128) }
+    requires named { Named (length (texts_of texts.now.tree.now)) value }
+    ensures { Said out.old n out.new result (words.now ++ value_text (texts_of texts.now.tree.now) value) (length words.now + value_room value) }
 {
     let mut digits = Buffer::new();
-    let mut at = n;
-    for (i, value) in values.iter().enumerate() {
-        at = copy(out, at, words[i]);
-        at = copy(out, at, piece(texts, *value, &mut digits));
-    }
-    copy(out, at, words[values.len()])
+    let a = copy(out, n, words);
+    copy(out, a, piece(texts, value, &mut digits))
 }

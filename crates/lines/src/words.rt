@@ -11,17 +11,11 @@ use super::{Expected, Place};
 use ast::ClassicalType;
 use context::SymbolKind;
 
-#[tactic(auto, unfolding(types::specs::Names::name_of))]
+// A type's name is the end of its constant's: without a heap nothing is joined.
 pub fn type_name(ty: ClassicalType) -> &'static [u8]
     ensures { Shown result.now (types.name_of ty) 16 }
 {
-    match ty {
-        ClassicalType::Int => b"int",
-        ClassicalType::UInt => b"uint",
-        ClassicalType::Float => b"float",
-        ClassicalType::Angle => b"angle",
-        ClassicalType::Bool => b"bool",
-    }
+    &const_name(ty)[b"const ".len()..]
 }
 
 #[tactic(auto, unfolding(types::specs::Names::name_of))]

@@ -9,7 +9,8 @@ use Rattle.sema.specs.Symbols.{Symbols, get}
 use Rattle.sema.specs.Operands.{fits, is_gate_qubit, is_some, index_says, slice_says, bounds_say, check_operand}
 use Rattle.context.specs.declared.GateOperand.{GateOperand as Operand}
 use Rattle.context.specs.declared.Symbol.{Symbol as SymbolValue}
-use Rattle.std.specs.Prelude.{Option as Maybe, Some, None, is_some as is_present}
+use Rattle.std.specs.Prelude.{Option as Maybe, Some, None, is_some as is_present, leb, ltb}
+use Rattle.sheet.specs.Places.{by_test}
 use Rattle.context.specs.declared.Sink.{Sink}
 use Rattle.context.specs.Values.{number_of, ends_of, operand_of, kind_of, symbol_of, found_of}
 use Rattle.lines.specs.declared.Expected.{Expected}
@@ -19,7 +20,11 @@ use Rattle.lines.specs.declared.Diagnostic.{Diagnostic}
 use Rattle.lines.specs.Values.{expected_of, error_of, error_with_note_of, Reported}
 use Rattle.promises.specs.Emitted.{Emitted, error-fits, noted-fits, emitted-none, emitted_report, emitted_then, emitted_as}
 use Rattle.operands.specs.declared.bounds.Fault.{Fault}
-use Rattle.operands.specs.Says.{kind_says, index_fault_says, slice_fault_says, nothing, check-none, check-some}
+use Rattle.operands.specs.Says.{fault_of, kind_says, index_fault_says, slice_fault_says, nothing, check-none, check-some}
+
+-- a slice within a size
+abbrev pub within : ℕ × ℕ → ℕ → Bool
+within r n = leb r.0 r.1 && ltb r.1 n
 
 -- nothing said
 pub nothing_is : (xs : List Messages.Diagnostic) → nothing xs ≡ true → xs ≡ []
@@ -45,6 +50,28 @@ module _ (t : List Text) (op : Operand) (sym : SymbolValue) (s : Sink) (o : List
 
   abbrev BoundsSaid : Type 0
   BoundsSaid = Emitted t (bounds_say (operand_of op) (symbol_of sym)) s o r o'
+
+-- what the fault of an index says, and that of a slice
+module _ (op : Operand) (v : SymbolValue) where
+  index_said : (i n : Maybe ℕ) → index_fault_says (operand_of op) (symbol_of v) (fault_of ltb i n) ≡ index_says (operand_of op) (symbol_of v) (number_of i) (number_of n)
+  unfolding index_fault_says index_says fault_of
+  index_said None n = refl
+  index_said (Some i) None = refl
+  index_said (Some i) (Some n) = by_test (ltb i n) (λ e. rw e refl) (λ e. rw e refl)
+
+  slice_said : (r : Maybe (ℕ × ℕ)) (n : Maybe ℕ) → slice_fault_says (operand_of op) (symbol_of v) (fault_of within r n) ≡ slice_says (operand_of op) (symbol_of v) (ends_of r) (number_of n)
+  unfolding slice_fault_says slice_says fault_of
+  slice_said None n = refl
+  slice_said (Some r) None = refl
+  slice_said (Some (a, b)) (Some n) = by_test (leb a b && ltb b n) (λ e. rw e refl) (λ e. rw e refl)
+
+  pub index_fault_said : (f : Maybe (Fault ℕ)) → f ≡ fault_of ltb op.index v.size
+      → index_fault_says (operand_of op) (symbol_of v) f ≡ index_says (operand_of op) (symbol_of v) (number_of op.index) (number_of v.size)
+  index_fault_said f e = rw e (index_said op.index v.size)
+
+  pub slice_fault_said : (f : Maybe (Fault (ℕ × ℕ))) → f ≡ fault_of within op.slice v.size
+      → slice_fault_says (operand_of op) (symbol_of v) f ≡ slice_says (operand_of op) (symbol_of v) (ends_of op.slice) (number_of v.size)
+  slice_fault_said f e = rw e (slice_said op.slice v.size)
 
 -- whether the bounds say nothing, test by test; `b` tells whether a gate qubit is indexed
 module _ (op : Operand) (v : SymbolValue) where

@@ -23,8 +23,8 @@ use Rattle.lines.specs.declared.Message.{Message}
 use Rattle.lines.specs.declared.Note.{Note}
 use Rattle.lines.specs.declared.Diagnostic.{Diagnostic}
 use Rattle.lines.specs.Values.{error_with_note_of, Reported}
-use Rattle.sheet.specs.Sheet.{lookup_in, least_in, by_whole, smallest_in, covered_of, Distinct}
-use Rattle.sheet.specs.Places.{by_test, first_pos, lookup-marks}
+use Rattle.sheet.specs.Sheet.{marked, lookup_in, least_in, by_whole, smallest_in, covered_of, Distinct}
+use Rattle.sheet.specs.Places.{by_test, first_pos, marked-none, marked-is, lookup-marks}
 use Rattle.sheet.specs.Smallest.{IsLeast, least_is, smallest-marks}
 use Rattle.sheet.specs.Kept.{lookup-placed, smallest-placed}
 use Rattle.accepted.specs.Cases.{blank_operand}
@@ -56,6 +56,8 @@ module _ (s : List ℕ) (at : ℕ) (h : IsOk (measure (texts_of s) at s (at + 1)
       unfolding measure measure_span
       measured-span r e =
           e ∙ sym (given_is (ends _ (known _ _ (m + 8) (span_is s m) refl (past _ _ none m m-end (past _ _ blank_operand k k-end (start h))))) _ stmt_span)
+
+pub ruleset measure_parts = (measured-qubit, measured_target, measured-inside, measured-span)
 
 -- a place that is not 0
 pub place_read : (tree : List ℕ) (p : ℕ) → (p ≡ 0 → ⊥) → PlaceOk tree p → IsOk (measure (texts_of tree) p tree (p + 1))
@@ -97,14 +99,16 @@ module _ (ks : List Key) (sheet : List ℕ) (x a b : ℕ) where
 
 -- the measure statement of what is looked up
 module _ (tree : List ℕ) (ks : List Key) (sheet : List ℕ) (x : ℕ) (placed : Placed tree sheet) where
-  pub looked_up : (i : Option ℕ) (p : ℕ) → p ≡ lookup_in ks sheet x i → (p ≡ 0 → ⊥) → IsOk (measure (texts_of tree) p tree (p + 1))
-  looked_up i p e z = place_read tree p z (rw e (lookup-placed tree ks sheet x placed i))
+  pub looked_up : (i : Option ℕ) {w : Maybe ℕ} {p : ℕ} → w ≡ marked (lookup_in ks sheet x i) → w ≡ Some p → IsOk (measure (texts_of tree) p tree (p + 1))
+  looked_up i {p = p} e f =
+      let m = marked-is (lookup_in ks sheet x i) p (sym e ∙ f) in
+      place_read tree p m.1 (rw (← m.0) (lookup-placed tree ks sheet x placed i))
 
-  pub covered : (a b i p : ℕ) (c : Maybe (ℕ × ℕ)) → Distinct ks → c ≡ smallest_in ks sheet x (a, b) → c ≡ Some (i, p) → IsOk (measure (texts_of tree) p tree (p + 1))
-  covered a b i p c d e f =
-      let g : Some (i, p) ≡ smallest_in ks sheet x (a, b) = sym f ∙ e in
-      let l : 0 < p = rw (← g) at (smallest-place ks sheet x a b d) in
-      place_read tree p (λ z. omega arith) (smallest-placed tree ks sheet x placed (a, b) i p g)
+  pub covered : (ends : ℕ × ℕ) (i p : ℕ) (c : Maybe (ℕ × ℕ)) → Distinct ks → c ≡ smallest_in ks sheet x ends → c ≡ Some (i, p) → IsOk (measure (texts_of tree) p tree (p + 1))
+  covered ends i p c d e f =
+      let g : Some (i, p) ≡ smallest_in ks sheet x ends = sym f ∙ e in
+      let l : 0 < p = rw (← g) at (smallest-place ks sheet x ends.0 ends.1 d) in
+      place_read tree p (λ z. omega arith) (smallest-placed tree ks sheet x placed ends i p g)
 
 -- what is looked up by places is what the marks say
 module _ (tree : List ℕ) (ks : List Key) (sheet : List ℕ) where
@@ -121,34 +125,38 @@ module _ (tree : List ℕ) (ks : List Key) (sheet : List ℕ) where
 
 -- what is said
 module _ {t : List Text} {s : Sink} {o : List ℕ} (tree : List ℕ) (ks : List Key) (sheet : List ℕ) (sp : Span) where
-  module _ (x a b : ℕ) (c : Maybe (ℕ × ℕ)) (d : Distinct ks) (e : c ≡ smallest_in ks sheet x (a, b)) where
-    pub slice_unused : c ≡ None → Emitted t (used_index_says x sp (smallest_covered (marks_of tree ks sheet) x (a, b))) s o s o
+  module _ (x : ℕ) (ends : ℕ × ℕ) (c : Maybe (ℕ × ℕ)) (d : Distinct ks) (e : c ≡ smallest_in ks sheet x ends) where
+    pub slice_unused : c ≡ None → Emitted t (used_index_says x sp (smallest_covered (marks_of tree ks sheet) x ends)) s o s o
     unfolding used_index_says
-    slice_unused f = rw (covered_is tree ks sheet x a b c d e, f) emitted-none
+    slice_unused f = rw (covered_is tree ks sheet x ends.0 ends.1 c d e, f) emitted-none
 
     pub slice-used : {i p : ℕ} (at : Span) → c ≡ Some (i, p) → at ≡ measure_span tree p
         → {v : Diagnostic} {r : Sink} {o' : List ℕ} → v ≡ error_with_note_of (Message.UsedIndex x i) sp Note.MeasuredHere at → Reported t v s o r o'
-        → Emitted t (used_index_says x sp (smallest_covered (marks_of tree ks sheet) x (a, b))) s o r o'
+        → Emitted t (used_index_says x sp (smallest_covered (marks_of tree ks sheet) x ends)) s o r o'
     unfolding used_index_says
-    slice-used at f g j p = rw (covered_is tree ks sheet x a b c d e, f, ← g) (emitted_report j p)
+    slice-used at f g j p = rw (covered_is tree ks sheet x ends.0 ends.1 c d e, f, ← g) (emitted_report j p)
 
   module _ (op : Operand) where
-    pub use_slice : {a b : ℕ} {r : Sink} {o' : List ℕ} → op.slice ≡ Some (a, b)
-        → Emitted t (used_index_says op.name sp (smallest_covered (marks_of tree ks sheet) op.name (a, b))) s o r o'
+    pub use_slice : {ends : ℕ × ℕ} {r : Sink} {o' : List ℕ} → op.slice ≡ Some ends
+        → Emitted t (used_index_says op.name sp (smallest_covered (marks_of tree ks sheet) op.name ends)) s o r o'
         → Emitted t (check_use_after_measure (marks_of tree ks sheet) (operand_of op) sp) s o r o'
     unfolding use_by
     use_slice e p = rw e p
 
-    module _ (f : op.slice ≡ None) (q : ℕ) (e : q ≡ lookup_in ks sheet op.name (number_of op.index)) where
-      pub use_none : q ≡ 0 → Emitted t (check_use_after_measure (marks_of tree ks sheet) (operand_of op) sp) s o s o
+    module _ (f : op.slice ≡ None) {w : Maybe ℕ} (e : w ≡ marked (lookup_in ks sheet op.name (number_of op.index))) where
+      pub use_none : w ≡ None → Emitted t (check_use_after_measure (marks_of tree ks sheet) (operand_of op) sp) s o s o
       unfolding used_says
-      use_none z = emitted_as emitted-none (use_by_lem tree ks sheet op sp (ap ends_of f) q e none (mark-none tree q z))
+      use_none z =
+          let found = lookup_in ks sheet op.name (number_of op.index) in
+          emitted_as emitted-none (use_by_lem tree ks sheet op sp (ap ends_of f) found refl none (mark-none tree found (marked-none found (sym e ∙ z))))
 
-      pub use_marked : (at : Span) → (q ≡ 0 → ⊥) → at ≡ measure_span tree q
+      pub use_marked : {p : ℕ} (at : Span) → w ≡ Some p → at ≡ measure_span tree p
           → {v : Diagnostic} {r : Sink} {o' : List ℕ} → v ≡ error_with_note_of (Message.Used op) sp Note.MeasuredHere at → Reported t v s o r o'
           → Emitted t (check_use_after_measure (marks_of tree ks sheet) (operand_of op) sp) s o r o'
       unfolding used_says
-      use_marked at z g j p = emitted_as (emitted_report j p) (use_by_lem tree ks sheet op sp (ap ends_of f) q e (some at) (mark-some tree q z ∙ rw g))
+      use_marked {p = p} at z g j said =
+          let m = marked-is (lookup_in ks sheet op.name (number_of op.index)) p (sym e ∙ z) in
+          emitted_as (emitted_report j said) (use_by_lem tree ks sheet op sp (ap ends_of f) p (sym m.0) (some at) (mark-some tree p m.1 ∙ rw g))
 
 pub ruleset slice-uses = (slice_unused, slice-used)
 

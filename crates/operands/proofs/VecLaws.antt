@@ -17,7 +17,8 @@ use Rattle.sema.specs.Symbols.{Symbols}
 use Rattle.sema.specs.Marks.{Marks}
 use Rattle.sema.specs.Operands.{unless, check_operand, operand_width, check_use_after_measure, use_operands}
 use Rattle.sema.specs.Stmts.{wide, register_widths, all_equal, widths_say}
-use Rattle.std.specs.Prelude.{Option as Maybe}
+use Rattle.std.specs.Prelude.{Option as Maybe, Some, None}
+use Rattle.std.specs.Option.{option_or}
 use Rattle.context.specs.declared.GateOperand.{GateOperand as Operand}
 use Rattle.context.specs.declared.Sink.{Sink}
 use Rattle.context.specs.Values.{number_of, operand_of}
@@ -31,12 +32,11 @@ use Rattle.lines.specs.declared.Message.{Message}
 use Rattle.lines.specs.declared.Diagnostic.{Diagnostic}
 use Rattle.lines.specs.Values.{error_of, Reported}
 use Rattle.promises.specs.Emitted.{Emitted, emitted-none, emitted_then, emitted_as, emitted_report}
-use Rattle.operands.specs.declared.widths.Widths.{Widths}
-use Rattle.operands.specs.Widths.{uniform, agree, widths_say_lem}
+use Rattle.operands.specs.Widths.{uniform, agree, ahead, differ, widths_say_lem}
 use Rattle.operands.specs.Says.{nothing}
 use Rattle.operands.specs.Passing.{passing}
 use Rattle.operands.proofs.Checks.{nothing_is}
-use Rattle.operands.proofs.WidthLaws.{width_single}
+use Rattle.operands.proofs.WidthLaws.{width_single, agree_next}
 
 -- n operands from k on
 abbrev pub left : List Text → List ℕ → ℕ → ℕ → List GateOperand
@@ -52,11 +52,11 @@ module _ (t : List Text) (s : List ℕ) (at : ℕ) where
 
   -- after i operands of n
   module _ (n i k : ℕ) (m : Left (n - i) k) where
-    pub left-first : i < n → IsOk (operand t s k)
-    left-first l = remains-first m l
+    pub left_first : i < n → IsOk (operand t s k)
+    left_first l = remains-first m l
 
     pub left-inside : i < n → is_single s k ≡ true → k + 20 ≤ length s
-    left-inside l e = single_inside t s k (left-first l) e
+    left-inside l e = single_inside t s k (left_first l) e
 
     module _ (l : i < n) (op : GateOperand) (next : ℕ) (e : operand t s k ≡ ok op next) where
       left-next : Left (n - (i + 1)) next
@@ -107,7 +107,7 @@ module _ (t : List Text) (tree : List ℕ) (ss : Symbols) (m : Marks) (sp : Span
 
       pub using_pass : Using t tree ss m sp at s o (n - (i + 1)) (k + 20) r o'
       using_pass =
-          let j = single_is t tree k (left-first t tree at n i k u.remains l) using_single in
+          let j = single_is t tree k (left_first t tree at n i k u.remains l) using_single in
           let z = sym (given_is j false (λ op. nothing (check_operand ss op a_qubit ++ check_use_after_measure m op sp))) ∙ both_second (is_single tree k) _ (sym (f sp) ∙ e) in
           using_more l _ (k + 20) j r o' refl (emitted_as emitted-none (sym (nothing_is _ z)))
 
@@ -115,21 +115,26 @@ module _ (t : List Text) (tree : List ℕ) (ss : Symbols) (m : Marks) (sp : Span
     unfolding use_operands
     using_end l = u.all (emitted_as emitted-none (sym (ap (use_operands ss m sp) (left-none t tree at n i k u.remains l))))
 
+agree-none : (met : Maybe ℕ) → agree met [] ≡ true
+unfolding agree uniform all_equal
+agree-none None = refl
+agree-none (Some w) = refl
+
 -- Widths: those of the operands left, behind those that were met, agree if all do.
-pub record Meeting (t : List Text) (tree : List ℕ) (ss : Symbols) (at n k : ℕ) (met : Widths) : Type 0 where
+pub record Meeting (t : List Text) (tree : List ℕ) (ss : Symbols) (at n k : ℕ) (met : Maybe ℕ) : Type 0 where
   pub remains : Left t tree at n k
   pub all : agree met (register_widths ss (left t tree n k)) ≡ given true (λ ops. uniform (register_widths ss ops)) (vec (operand t) tree at)
 
 module _ (t : List Text) (tree : List ℕ) (ss : Symbols) (at : ℕ) where
-  pub meeting-start : (n : ℕ) → IsOk (vec (operand t) tree at) → n ≡ get_or tree at 0 → Meeting t tree ss at (n - 0) (at + 1) Widths.None
+  pub meeting-start : (n : ℕ) → IsOk (vec (operand t) tree at) → n ≡ get_or tree at 0 → Meeting t tree ss at (n - 0) (at + 1) None
   unfolding agree
   meeting-start n h e = record {
     remains = remains-none [] ◌∷◌ (operand t) tree at n h e;
     all = sym (left-all t tree at true (λ ops. uniform (register_widths ss ops)) n h e);
   }
 
-  module _ (n i k : ℕ) (met : Widths) (u : Meeting t tree ss at (n - i) k met) where
-    meeting-step : i < n → (op : GateOperand) (next : ℕ) → operand t tree k ≡ ok op next → (r : Widths) → ((ws : List ℕ) → agree r ws ≡ agree met (wide (operand_width ss op) ws))
+  module _ (n i k : ℕ) (met : Maybe ℕ) (u : Meeting t tree ss at (n - i) k met) where
+    meeting-step : i < n → (op : GateOperand) (next : ℕ) → operand t tree k ≡ ok op next → (r : Maybe ℕ) → ((ws : List ℕ) → agree r ws ≡ agree met (wide (operand_width ss op) ws))
         → Meeting t tree ss at (n - (i + 1)) next r
     unfolding register_widths
     meeting-step l op next e r g = record {
@@ -137,19 +142,29 @@ module _ (t : List Text) (tree : List ℕ) (ss : Symbols) (at : ℕ) where
       all = g _ ∙ ap (λ ops. agree met (register_widths ss ops)) (sym (left_is t tree at n i k u.remains l op next e)) ∙ u.all;
     }
 
-    pub meeting-more : i < n → (op : Operand) (next : ℕ) → operand t tree k ≡ ok (operand_of op) next → (width : Maybe ℕ) → number_of width ≡ operand_width ss (operand_of op)
-        → (r : Widths) → ((ws : List ℕ) → agree r ws ≡ agree met (wide (number_of width) ws)) → Meeting t tree ss at (n - (i + 1)) next r
-    meeting-more l op next e width f r g = meeting-step l (operand_of op) next e r (λ ws. rw (← f) (g ws))
+    -- an operand more, with its width above 1
+    module _ (l : i < n) (op : Operand) (next : ℕ) (e : operand t tree k ≡ ok (operand_of op) next) (width : Maybe ℕ) (f : number_of width ≡ operand_width ss (operand_of op))
+        (w : Maybe ℕ) (g : (ws : List ℕ) → ahead w ws ≡ wide (number_of width) ws) (b : Bool) (d : b ≡ differ met w) where
+      width-next : (ws : List ℕ) → agree met (wide (operand_width ss (operand_of op)) ws) ≡ cond b false (agree (option_or met w) ws)
+      width-next ws = rw (← f, ← g ws) (agree_next met w ws b d)
+
+      pub meeting-more : b ≡ false → (r : Maybe ℕ) → r ≡ option_or met w → Meeting t tree ss at (n - (i + 1)) next r
+      meeting-more z r q = meeting-step l (operand_of op) next e r (λ ws. rw q (sym (rw z at (width-next ws))))
+
+      pub meeting-differ : b ≡ true → false ≡ given true (λ ops. uniform (register_widths ss ops)) (vec (operand t) tree at)
+      unfolding register_widths
+      meeting-differ z =
+          sym (rw z at (width-next (register_widths ss (left t tree (n - (i + 1)) next)))) ∙ ap (λ ops. agree met (register_widths ss ops)) (sym (left_is t tree at n i k u.remains l (operand_of op) next e)) ∙ u.all
 
     -- past an operand with an index and no slice
     pub meeting_single : i < n → (b : Bool) → b ≡ is_single tree k → b ≡ true → Meeting t tree ss at (n - (i + 1)) (k + 20) met
     meeting_single l b f e =
-        meeting-step l _ (k + 20) (single_is t tree k (left-first t tree at n i k u.remains l) (sym f ∙ e)) met
+        meeting-step l _ (k + 20) (single_is t tree k (left_first t tree at n i k u.remains l) (sym f ∙ e)) met
         (λ ws. ap (agree met) (width_single ss _ refl refl ws))
 
-    pub meeting-end : n ≤ i → agree met [] ≡ given true (λ ops. uniform (register_widths ss ops)) (vec (operand t) tree at)
+    pub meeting-end : n ≤ i → true ≡ given true (λ ops. uniform (register_widths ss ops)) (vec (operand t) tree at)
     unfolding register_widths
-    meeting-end l = ap (λ ops. agree met (register_widths ss ops)) (sym (left-none t tree at n i k u.remains l)) ∙ u.all
+    meeting-end l = sym (agree-none met) ∙ ap (λ ops. agree met (register_widths ss ops)) (sym (left-none t tree at n i k u.remains l)) ∙ u.all
 
 -- one width alone is equal to all
 one-uniform : (w : Option ℕ) → uniform (wide w []) ≡ true
@@ -168,30 +183,23 @@ few-uniform ss (op ∷ []) l = one-uniform (operand_width ss op)
 few-uniform ss (op ∷ other ∷ ops) l = absurd (omega arith)
 
 pub meeting-few : (t : List Text) (tree : List ℕ) (ss : Symbols) (at n : ℕ) → IsOk (vec (operand t) tree at) → n ≡ get_or tree at 0 → n < 2
-    → agree Widths.None [] ≡ given true (λ ops. uniform (register_widths ss ops)) (vec (operand t) tree at)
-unfolding agree uniform
+    → true ≡ given true (λ ops. uniform (register_widths ss ops)) (vec (operand t) tree at)
 meeting-few t tree ss at n h e l =
     sym
     (given_ok [] true (λ ops. uniform (register_widths ss ops)) (vec (operand t) tree at) h
     ∙ few-uniform ss (value_or [] (vec (operand t) tree at)) (omega (arith, vec_size blank_operand (operand t) tree at h)))
 
 -- The verdict over all.
-module _ (ss : Symbols) (sp : Span) (x : Ans (List GateOperand)) (h : IsOk x) (met : Widths) (e : agree met [] ≡ given true (λ ops. uniform (register_widths ss ops)) x) where
-  broadcast_is : unless (agree met []) (error broadcasting sp) ≡ given [] (λ ops. widths_say sp (register_widths ss ops)) x
+module _ (ss : Symbols) (sp : Span) (x : Ans (List GateOperand)) (h : IsOk x) (b : Bool) (e : b ≡ given true (λ ops. uniform (register_widths ss ops)) x) where
+  broadcast_is : unless b (error broadcasting sp) ≡ given [] (λ ops. widths_say sp (register_widths ss ops)) x
   broadcast_is =
       ap (λ (b : Bool). unless b (error broadcasting sp)) (e ∙ given_ok [] true (λ ops. uniform (register_widths ss ops)) x h)
       ∙ sym (given_ok [] [] (λ ops. widths_say sp (register_widths ss ops)) x h ∙ widths_say_lem sp (register_widths ss (value_or [] x)))
 
   module _ {t : List Text} {s : Sink} {o : List ℕ} where
-    pub broadcast_none : met ≡ Widths.None → Emitted t (given [] (λ ops. widths_say sp (register_widths ss ops)) x) s o s o
-    unfolding agree uniform
-    broadcast_none g = emitted_as (rw g emitted-none) broadcast_is
+    pub broadcast_agree : b ≡ true → Emitted t (given [] (λ ops. widths_say sp (register_widths ss ops)) x) s o s o
+    broadcast_agree g = emitted_as (rw g emitted-none) broadcast_is
 
-    pub broadcast_all : {w : ℕ} → met ≡ Widths.All w → Emitted t (given [] (λ ops. widths_say sp (register_widths ss ops)) x) s o s o
-    unfolding agree all_equal
-    broadcast_all g = emitted_as (rw g emitted-none) broadcast_is
-
-    pub broadcast_differ : met ≡ Widths.Differ → {d : Diagnostic} {r : Sink} {o' : List ℕ} → d ≡ error_of Message.Broadcasting sp → Reported t d s o r o'
+    pub broadcast_differ : b ≡ false → {d : Diagnostic} {r : Sink} {o' : List ℕ} → d ≡ error_of Message.Broadcasting sp → Reported t d s o r o'
         → Emitted t (given [] (λ ops. widths_say sp (register_widths ss ops)) x) s o r o'
-    unfolding agree
     broadcast_differ g f p = emitted_as (rw g (emitted_report f p)) broadcast_is

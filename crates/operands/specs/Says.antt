@@ -1,5 +1,5 @@
 -- Parts of what is said of operands, by names of their own. Assumes nothing.
-use Rattle.std.specs.Prelude.{◌≡◌, List, [], ◌∷◌, ◌++◌, Bool, true, false}
+use Rattle.std.specs.Prelude.{◌≡◌, List, [], ◌∷◌, ◌++◌, Bool, true, false, cond}
 use Rattle.std.proofs.Math.Option.{none, some}
 use Rattle.ast.specs.Tree.{GateOperand}
 use Rattle.sema.specs.Messages
@@ -14,6 +14,12 @@ unfoldable pub kind_says : GateOperand → Symbol → Expected → List Diagnost
 kind_says op sym expected =
     unless (fits expected sym.kind)
     (error_with_note (Messages.expected_kind expected op.name sym.kind) op.span (Messages.declared_as op.name sym.kind) sym.decl_span)
+
+-- the fault of a place, by the test whether it is within a size
+unfoldable pub fault_of : {T : Type 0} → (T → ℕ → Bool) → Maybe T → Maybe ℕ → Maybe (Fault T)
+fault_of t None size = None
+fault_of t (Some p) None = Some Fault.WithoutSize
+fault_of t (Some p) (Some n) = cond (t p n) None (Some (Fault.OutOfBounds p n))
 
 -- a fault of an index, and of a slice
 unfoldable pub index_fault_says : GateOperand → Symbol → Maybe (Fault ℕ) → List Diagnostic

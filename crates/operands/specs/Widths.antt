@@ -1,5 +1,5 @@
 -- The widths of operands, beside one another. Assumes nothing.
-use Rattle.std.specs.Prelude.{ℕ, ◌≡◌, refl, Bool, true, false, List, [], ◌∷◌, ◌++◌, eqb}
+use Rattle.std.specs.Prelude.{ℕ, ◌≡◌, refl, Bool, true, false, not, Option as Maybe, Some, None, List, [], ◌∷◌, ◌++◌, eqb}
 use Rattle.std.proofs.Math.Option.{Option, none, some}
 use Rattle.std.proofs.Common.{eq-eqb}
 use Rattle.span.specs.declared.Span.{Span}
@@ -9,7 +9,6 @@ use Rattle.sema.specs.Messages.{a_bit, Diagnostic, error, error_with_note}
 use Rattle.sema.specs.Symbols.{Symbols}
 use Rattle.sema.specs.Operands.{unless, check_operand, operand_width}
 use Rattle.sema.specs.Stmts.{all_equal, widths_say, measure_target}
-use Rattle.operands.specs.declared.widths.Widths.{Widths}
 
 -- what is said of the widths of a measurement's source and target, if both have one; `at` is the target's span
 unfoldable pub widths_by : Span → Span → Option ℕ → Option ℕ → List Diagnostic
@@ -40,11 +39,21 @@ unfoldable pub uniform : List ℕ → Bool
 uniform [] = true
 uniform (w ∷ ws) = all_equal w ws
 
--- and behind those that were met?
-unfoldable pub agree : Widths → List ℕ → Bool
-agree Widths.None ws = uniform ws
-agree (Widths.All w) ws = all_equal w ws
-agree Widths.Differ ws = false
+-- and behind one that was met?
+unfoldable pub agree : Maybe ℕ → List ℕ → Bool
+agree None ws = uniform ws
+agree (Some w) ws = all_equal w ws
+
+-- a width, if there is one, ahead of others
+abbrev pub ahead : Maybe ℕ → List ℕ → List ℕ
+ahead None ws = ws
+ahead (Some w) ws = w ∷ ws
+
+-- does a width differ from the one that was met?
+abbrev pub differ : Maybe ℕ → Maybe ℕ → Bool
+differ None width = false
+differ (Some m) None = false
+differ (Some m) (Some w) = not (eqb w m)
 
 pub widths_say_lem : (sp : Span) (ws : List ℕ) → widths_say sp ws ≡ unless (uniform ws) (error Messages.broadcasting sp)
 unfolding widths_say uniform all_equal

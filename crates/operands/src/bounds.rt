@@ -1,13 +1,13 @@
 // What is said of an operand whose name is declared: its kind, its index, its slice.
-ghost use Rattle.std.specs.Prelude.{◌≡◌, ◌<◌, length};
+ghost use Rattle.std.specs.Prelude.{◌≡◌, ◌<◌, length, ℕ, Bool};
 ghost use Rattle.sema.specs.Operands.{index_says, slice_says, bounds_say};
 ghost use Rattle.context.specs.Values.{number_of, ends_of, operand_of, symbol_of};
 ghost use Rattle.context.specs.Given.{texts};
 ghost use Rattle.lines.specs.Values.{expected_of, error_with_note_of, Fits, Reported};
 ghost use Rattle.promises.specs.Emitted.{Emitted};
-ghost use Rattle.operands.specs.Says.{kind_says, index_fault_says, slice_fault_says, nothing};
+ghost use Rattle.operands.specs.Says.{fault_of, kind_says, index_fault_says, slice_fault_says, nothing};
 
-use crate::kinds::{fits, indexes_wire, within};
+use crate::kinds::{fits, indexes_wire};
 use context::{GateOperand, SemaContext, Sink, Symbol};
 use lines::{Expected, Message, Note, error, error_with_note};
 
@@ -28,6 +28,7 @@ fn report_declared(
     lines::report(out, sink, sema.texts, d)
 }
 
+#[tactic(auto, using(crate::proofs::Checks::kind_fits))]
 pub fn check_kind(
     sema: SemaContext<'_>,
     out: &mut [u8],
@@ -61,30 +62,37 @@ enum Fault<T> {
     OutOfBounds(T, u64),
 }
 
+// The fault of a place that an operand has, if it has one.
+#[tactic(auto, unfolding(crate::specs::Says::fault_of))]
+fn find_fault<T: Copy, F: Fn(T, u64) -> bool>(
+    place: Option<T>,
+    size: Option<u64>,
+    is_within: F,
+) -> Option<Fault<T>>
+    requires { F.IsAlwaysCallable is_within }
+    ensures { (t : T → ℕ → Bool) → ((p : T) (n : ℕ) (r : Bool) → F.post is_within p n r → r ≡ t p n) → result ≡ fault_of t place size }
+{
+    let p = place?;
+    let Some(n) = size else {
+        return Some(Fault::WithoutSize);
+    };
+    if is_within(p, n) {
+        None
+    } else {
+        Some(Fault::OutOfBounds(p, n))
+    }
+}
+
 fn index_fault(op: GateOperand, symbol: Symbol) -> Option<Fault<u64>>
     ensures { index_fault_says (operand_of op) (symbol_of symbol) result ≡ index_says (operand_of op) (symbol_of symbol) (number_of op.index) (number_of symbol.size) }
 {
-    let i = op.index?;
-    let Some(n) = symbol.size else {
-        return Some(Fault::WithoutSize);
-    };
-    if i < n {
-        return None;
-    }
-    Some(Fault::OutOfBounds(i, n))
+    find_fault(op.index, symbol.size, |i, n| i < n)
 }
 
 fn slice_fault(op: GateOperand, symbol: Symbol) -> Option<Fault<(u64, u64)>>
     ensures { slice_fault_says (operand_of op) (symbol_of symbol) result ≡ slice_says (operand_of op) (symbol_of symbol) (ends_of op.slice) (number_of symbol.size) }
 {
-    let (a, b) = op.slice?;
-    let Some(n) = symbol.size else {
-        return Some(Fault::WithoutSize);
-    };
-    if within(a, b, n) {
-        return None;
-    }
-    Some(Fault::OutOfBounds((a, b), n))
+    find_fault(op.slice, symbol.size, |(a, b), n| a <= b && b < n)
 }
 
 fn check_index(

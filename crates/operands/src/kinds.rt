@@ -1,5 +1,5 @@
 // Tests of the values of an operand and of a symbol.
-ghost use Rattle.std.specs.Prelude.{◌≡◌, ◌&&◌, ◌||◌, leb, ltb};
+ghost use Rattle.std.specs.Prelude.{◌≡◌, ◌&&◌, ◌||◌};
 ghost use Rattle.sema.specs.Messages.{a_qubit};
 ghost use Rattle.sema.specs.Operands as sema;
 ghost use Rattle.context.specs.Values.{number_of, ends_of, kind_of};
@@ -15,6 +15,7 @@ fn is_subscripted(op: GateOperand) -> bool
     op.index.is_some() || op.slice.is_some()
 }
 
+#[tactic(auto, unfolding(sema::specs::Operands::is_gate_qubit))]
 fn is_gate_qubit(kind: SymbolKind) -> bool
     ensures { result ≡ sema.is_gate_qubit (kind_of kind) }
 {
@@ -28,6 +29,7 @@ pub fn indexes_wire(op: GateOperand, kind: SymbolKind) -> bool
     is_gate_qubit(kind) && is_subscripted(op)
 }
 
+#[tactic(auto, unfolding(sema::specs::Operands::fits))]
 fn is_qubit(kind: SymbolKind) -> bool
     ensures { result ≡ sema.fits a_qubit (kind_of kind) }
 {
@@ -42,11 +44,4 @@ pub fn fits(expected: Expected, kind: SymbolKind) -> bool
         Expected::Qubit => is_qubit(kind),
         Expected::Bit => context::is_bit(kind),
     }
-}
-
-// Is it a slice of a register of so many?
-pub fn within(a: u64, b: u64, n: u64) -> bool
-    ensures { result ≡ (leb a b && ltb b n) }
-{
-    a <= b && b < n
 }

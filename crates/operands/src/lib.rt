@@ -21,7 +21,7 @@ ghost use Rattle.promises.specs.Emitted.{Emitted};
 ghost use Rattle.operands.specs.Measured.{marks};
 ghost use Rattle.operands.specs.Says.{nothing};
 ghost use Rattle.operands.specs.Passing.{passing};
-ghost use Rattle.operands.specs.Widths.{measure_widths, uniform, agree};
+ghost use Rattle.operands.specs.Widths.{measure_widths, uniform};
 
 use accepted::operands::operand_at;
 use accepted::singles::{is_single, single_at};
@@ -29,7 +29,6 @@ use context::{GateOperand, SemaContext, Sink};
 use lines::{Expected, Message, Note, error, error_with_note};
 pub use measured::Measured;
 use span::Span;
-use widths::Widths;
 
 pub fn check_operand(
     sema: SemaContext<'_>,
@@ -53,6 +52,7 @@ pub fn check_operand(
     bounds::check_bounds(sema, out, op, symbol, s)
 }
 
+#[tactic(auto, unfolding(sema::specs::Operands::operand_width))]
 fn operand_width(sema: SemaContext<'_>, op: GateOperand) -> Option<u64>
     requires { op.name < 256 }
     ensures { number_of result ≡ operand_width (scopes sema.entry) (operand_of op) }
@@ -62,6 +62,7 @@ fn operand_width(sema: SemaContext<'_>, op: GateOperand) -> Option<u64>
 }
 
 // A measurement's source and target have one width.
+#[tactic(auto, using(crate::proofs::WidthLaws::source_none))]
 pub fn check_measure_widths(
     sema: SemaContext<'_>,
     out: &mut [u8],
@@ -95,6 +96,7 @@ pub fn check_measure_widths(
     )
 }
 
+#[tactic(auto, using(crate::proofs::UseLaws::use_none, crate::proofs::UseLaws::looked_up))]
 fn check_use_after_measure(
     m: Measured<'_, '_>,
     out: &mut [u8],
@@ -105,13 +107,12 @@ fn check_use_after_measure(
     requires { op.name < length (texts m.sema) }
     ensures { Emitted (texts m.entry.sema) (check_use_after_measure (marks m.entry) (operand_of op) span) sink out.old result out.new }
 {
-    if let Some((a, b)) = op.slice {
-        return uses::check_slice_use(m, out, op.name, a, b, span, sink);
+    if let Some(ends) = op.slice {
+        return uses::check_slice_use(m, out, op.name, ends, span, sink);
     }
-    let place = sheet::lookup(m.marks, m.keys, op.name, op.index);
-    if place == 0 {
+    let Some(place) = sheet::lookup(m.marks, m.keys, op.name, op.index) else {
         return sink;
-    }
+    };
     let at = uses::measure_span(m.sema.texts.tree, usize::from(place));
     lines::report(
         out,
@@ -122,6 +123,7 @@ fn check_use_after_measure(
 }
 
 // Has check_operand nothing to say?
+#[tactic(auto, unfolding(crate::specs::Says::nothing, sema::specs::Operands::check_operand))]
 fn is_quiet(sema: SemaContext<'_>, op: GateOperand, expected: Expected) -> bool
     requires { op.name < 256 }
     ensures { result ≡ nothing (check_operand (scopes sema.entry) (operand_of op) (expected_of expected)) }
@@ -145,6 +147,7 @@ fn use_operand(m: Measured<'_, '_>, out: &mut [u8], op: GateOperand, span: Span,
 }
 
 // Has such an operand an index and no slice, and is there nothing to say of it?
+#[tactic(auto, using(crate::proofs::PassLaws::pass_loud))]
 fn passes(m: Measured<'_, '_>, at: usize) -> bool
     requires { IsOk (operand (texts m.sema) m.sema.texts.tree.now at) }
     ensures { (sp : Span) → result ≡ passing (texts m.entry.sema) m.entry.sema.texts.tree.now (scopes m.entry.sema) (marks m.entry) sp at }
@@ -153,10 +156,12 @@ fn passes(m: Measured<'_, '_>, at: usize) -> bool
         return false;
     }
     let op = single_at(m.sema.texts.tree, at);
-    is_quiet(m.sema, op, Expected::Qubit) && sheet::lookup(m.marks, m.keys, op.name, op.index) == 0
+    is_quiet(m.sema, op, Expected::Qubit)
+        && sheet::lookup(m.marks, m.keys, op.name, op.index).is_none()
 }
 
 // A Vec of them.
+#[tactic(auto, using(accepted::specs::Fields::counted_in, crate::proofs::VecLaws::left_first))]
 pub fn use_operands(m: Measured<'_, '_>, out: &mut [u8], at: usize, span: Span, sink: Sink) -> Sink
     requires { IsOk (vec (operand (texts m.sema)) m.sema.texts.tree.now at) }
     ensures { Emitted (texts m.entry.sema) (given [] (use_operands (scopes m.entry.sema) (marks m.entry) span) (vec (operand (texts m.entry.sema)) m.entry.sema.texts.tree.now at)) sink out.old result out.new }
@@ -175,27 +180,32 @@ pub fn use_operands(m: Measured<'_, '_>, out: &mut [u8], at: usize, span: Span, 
     s
 }
 
-// The widths above 1 of a Vec of operands. One alone has none beside it.
-fn register_widths(sema: SemaContext<'_>, at: usize) -> Widths
+// Are the widths above 1 of a Vec of operands all equal? One alone has none beside it.
+#[tactic(auto, using(accepted::specs::Fields::counted_in, crate::proofs::VecLaws::left_first))]
+fn widths_agree(sema: SemaContext<'_>, at: usize) -> bool
     requires { IsOk (vec (operand (texts sema)) sema.texts.tree.now at) }
-    ensures { agree result [] ≡ given true (λ ops. uniform (register_widths (scopes sema.entry) ops)) (vec (operand (texts sema.entry)) sema.entry.texts.tree.now at) }
+    ensures { result ≡ given true (λ ops. uniform (register_widths (scopes sema.entry) ops)) (vec (operand (texts sema.entry)) sema.entry.texts.tree.now at) }
 {
     let n = sema.texts.tree[at];
-    let mut k = at + 1;
-    let mut met = Widths::None;
     if n < 2 {
-        return met;
+        return true;
     }
+    let mut k = at + 1;
+    let mut met = None;
     for _ in 0..n {
         if is_single(sema.texts.tree, k) {
             k += 20;
         } else {
             let op = operand_at(sema.texts.tree, k);
-            met = widths::meet(met, operand_width(sema, op.value));
+            let width = widths::above_one(operand_width(sema, op.value));
+            if widths::differ(met, width) {
+                return false;
+            }
+            met = met.or(width);
             k = op.next;
         }
     }
-    met
+    true
 }
 
 // Registers in one gate call have one width.
@@ -209,8 +219,8 @@ pub fn check_broadcasting(
     requires { IsOk (vec (operand (texts sema)) sema.texts.tree.now at) }
     ensures { Emitted (texts sema.entry) (given [] (λ ops. widths_say span (register_widths (scopes sema.entry) ops)) (vec (operand (texts sema.entry)) sema.entry.texts.tree.now at)) sink out.old result out.new }
 {
-    match register_widths(sema, at) {
-        Widths::None | Widths::All(_) => sink,
-        Widths::Differ => lines::report(out, sink, sema.texts, error(Message::Broadcasting, span)),
+    if widths_agree(sema, at) {
+        return sink;
     }
+    lines::report(out, sink, sema.texts, error(Message::Broadcasting, span))
 }

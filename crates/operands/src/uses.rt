@@ -18,6 +18,7 @@ use lines::{Message, Note, error_with_note};
 use span::Span;
 
 // The span of the measure statement whose case byte stands at a place.
+#[tactic(auto, using(crate::proofs::UseLaws::measure_parts))]
 pub fn measure_span(tree: &[u8], place: usize) -> Span
     requires { IsOk (measure (texts_of tree.now) place tree.now (place + 1)) }
     ensures { result ≡ measure_span tree.now place }
@@ -28,19 +29,19 @@ pub fn measure_span(tree: &[u8], place: usize) -> Span
 }
 
 // The smallest index of the slice that a mark covers.
+#[tactic(auto, using(crate::proofs::UseLaws::slice_unused, crate::proofs::UseLaws::covered))]
 pub fn check_slice_use(
     m: Measured<'_, '_>,
     out: &mut [u8],
     x: usize,
-    a: u64,
-    b: u64,
+    ends: (u64, u64),
     span: Span,
     sink: Sink,
 ) -> Sink
     requires { x < length (texts m.sema) }
-    ensures { Emitted (texts m.entry.sema) (used_index_says x span (smallest_covered (marks m.entry) x (a, b))) sink out.old result out.new }
+    ensures { Emitted (texts m.entry.sema) (used_index_says x span (smallest_covered (marks m.entry) x ends)) sink out.old result out.new }
 {
-    let Some((i, place)) = sheet::smallest(m.marks, m.keys, x, a, b) else {
+    let Some((i, place)) = sheet::smallest(m.marks, m.keys, x, ends) else {
         return sink;
     };
     let at = measure_span(m.sema.texts.tree, usize::from(place));

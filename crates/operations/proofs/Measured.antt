@@ -3,7 +3,7 @@ use Prim.Native.Nat.{ℕ, zero, suc, ◌+◌, ◌-◌, ◌*◌, ◌≤◌, ◌<�
 use mathlib.Core.Path.{◌≡◌, refl, sym, ap, subst, ◌∙◌}
 use mathlib.Core.List.{List, []}
 use mathlib.Core.Option.{Option, none, some}
-use mathlib.Core.Bool.{true, false, not}
+use mathlib.Core.Bool.{Bool, true, false, not}
 use native.Mathlib.Omega.{arith}
 use lib.ListN.{length, get_or}
 use borrow.Author.Tests.{leb-true}
@@ -26,7 +26,7 @@ use Rattle.context.specs.declared.GateOperand.{GateOperand as Operand}
 use Rattle.context.specs.declared.Sink.{Sink}
 use Rattle.context.specs.declared.After.{After}
 use Rattle.context.specs.declared.State.{State}
-use Rattle.std.specs.Prelude.{Option as Maybe}
+use Rattle.std.specs.Prelude.{Option as Maybe, is_some as is_present}
 use Rattle.context.specs.Values.{operand_of, number_of, ends_of}
 use Rattle.context.specs.View.{number_at, PlaceOk, Placed, scopes_of, marks_of, mark_by, measure_span, span_at, context_of}
 use Rattle.accepted.specs.Cases.{blank_operand}
@@ -37,9 +37,9 @@ use Rattle.accepted.specs.Operands.{operand-name, operand-name_in}
 use Rattle.accepted.specs.Levels.{level-goes}
 use Rattle.accepted.specs.Marked.{measured-span}
 use Rattle.accepted.specs.Stmts as of
-use Rattle.sheet.specs.Sheet.{Covers, measuring, lookup_in}
+use Rattle.sheet.specs.Sheet.{Covers, measuring, marked, lookup_in}
 use Rattle.promises.specs.Went.{stmt_keys}
-use Rattle.sheet.specs.Places.{lookup-marks}
+use Rattle.sheet.specs.Places.{unmarked, is_marked, lookup-marks}
 use Rattle.sheet.specs.Effects.{measured_is}
 use Rattle.lines.specs.declared.Message.{Message}
 use Rattle.lines.specs.declared.Diagnostic.{Diagnostic as DiagnosticValue}
@@ -63,26 +63,26 @@ module _ (ss : Symbols) (op : GateOperand) {size : Option ℕ} (e : size ≡ siz
   marks_by sp m f = rw (← measuring_by) f
 
 -- was it measured before?
-module _ (tree : List ℕ) (ks : List Key) (sheet : List ℕ) (x : TextNumber) (i : Option ℕ) (place : ℕ) (e : place ≡ lookup_in ks sheet x i) where
-  unmarked : place ≡ 0 → not (is_some (lookup_measured (marks_of tree ks sheet) x i)) ≡ true
+module _ (tree : List ℕ) (ks : List Key) (sheet : List ℕ) (x : TextNumber) (i : Option ℕ) (place : Maybe ℕ) (e : place ≡ marked (lookup_in ks sheet x i)) (b : Bool) (v : is_present place ≡ not b) where
+  first-measured : b ≡ true → not (is_some (lookup_measured (marks_of tree ks sheet) x i)) ≡ true
   unfolding mark_by
-  unmarked z = rw (← lookup-marks tree ks sheet x i, ← e, z)
+  first-measured z = rw (← lookup-marks tree ks sheet x i, unmarked (lookup_in ks sheet x i) (ap is_present (sym e) ∙ v ∙ ap not z))
 
-  is_marked : (place ≡ 0 → ⊥) → not (is_some (lookup_measured (marks_of tree ks sheet) x i)) ≡ false
+  measured-before : b ≡ false → not (is_some (lookup_measured (marks_of tree ks sheet) x i)) ≡ false
   unfolding mark_by
-  is_marked z = rw (← lookup-marks tree ks sheet x i, ← e) (go place z)
+  measured-before z = rw (← lookup-marks tree ks sheet x i) (go (lookup_in ks sheet x i) (is_marked (lookup_in ks sheet x i) (ap is_present (sym e) ∙ v ∙ ap not z)))
     where
       go : (p : ℕ) → (p ≡ 0 → ⊥) → not (is_some (mark_by tree p)) ≡ false
       go zero z = absurd (z refl)
       go (suc p) z = refl
 
   module _ {t : List Text} {s : Sink} {o : List ℕ} where
-    pub measured-first : (d : Diagnostic) → place ≡ 0 → Emitted t (unless (not (is_some (lookup_measured (marks_of tree ks sheet) x i))) d) s o s o
-    measured-first d z = unless_holds _ d (unmarked z)
+    pub measured-first : (d : Diagnostic) → b ≡ true → Emitted t (unless (not (is_some (lookup_measured (marks_of tree ks sheet) x i))) d) s o s o
+    measured-first d z = unless_holds _ d (first-measured z)
 
-    pub measured-again : (op : Operand) (sp : Span) {d : DiagnosticValue} {r : Sink} {o' : List ℕ} → d ≡ warning_of (Message.AlreadyMeasured op) sp → (place ≡ 0 → ⊥) → Reported t d s o r o'
+    pub measured-again : (op : Operand) (sp : Span) {d : DiagnosticValue} {r : Sink} {o' : List ℕ} → d ≡ warning_of (Message.AlreadyMeasured op) sp → b ≡ false → Reported t d s o r o'
         → Emitted t (unless (not (is_some (lookup_measured (marks_of tree ks sheet) x i))) (warning (already_measured (operand_of op)) sp)) s o r o'
-    measured-again op sp w z p = unless_fails _ (is_marked z) (rw w at p)
+    measured-again op sp w z p = unless_fails _ (measured-before z) (rw w at p)
 
 -- a target
 pub target_said : {t : List Text} (ss : Symbols) (qubit target : GateOperand) (sp : Span) {s : Sink} {o : List ℕ} {r : Sink} {q : List ℕ} {r' : Sink} {o' : List ℕ}

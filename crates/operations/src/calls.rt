@@ -13,7 +13,8 @@ ghost use Rattle.context.specs.Given.{texts, scopes, functions};
 ghost use Rattle.operands.specs.Measured.{marks};
 ghost use Rattle.context.specs.View.{gates_of};
 ghost use Rattle.accepted.specs.Parts.{value_or};
-ghost use Rattle.lines.specs.Values.{secondary_of, NoteBelow};
+ghost use Rattle.lines.specs.declared.Severity.{Severity};
+ghost use Rattle.lines.specs.Values.{secondary_of, name_in, Below, NoteBelow, Reported};
 ghost use Rattle.promises.specs.Emitted.{Emitted};
 ghost use Rattle.promises.specs.Typings.{plain_context};
 ghost use Rattle.operations.specs.Calls.{CallOf, params_by, qubits_by, fits_arity, arity_by, standard_of, signature_by};
@@ -31,8 +32,8 @@ use span::Span;
 #[derive(Clone, Copy)]
 pub struct Call {
     pub name: usize,
-    pub params: usize,
-    pub args: usize,
+    pub params: u8,
+    pub args: u8,
     pub controls: u64,
     pub params_at: usize,
     pub args_at: usize,
@@ -49,8 +50,8 @@ pub fn call_at(tree: &[u8], at: usize, left: usize) -> Call
     let args_at = skip_exprs(tree, params_at, 32);
     let end = skip_operands(tree, args_at);
     let name = u16_at(tree, at + 1);
-    let params = usize::from(tree[params_at]);
-    let args = usize::from(tree[args_at]);
+    let params = tree[params_at];
+    let args = tree[args_at];
     // 0 for arity where there is no total
     let controls = c.value.unwrap_or(0);
     let span = span_at(tree, end);
@@ -67,70 +68,76 @@ pub fn call_at(tree: &[u8], at: usize, left: usize) -> Call
 }
 
 // Is the number of arguments that of the qubits and controls?
-fn is_arity(args: usize, qubits: usize, controls: u64) -> bool
+fn is_arity(args: u8, qubits: u8, controls: u64) -> bool
     ensures { result ≡ eqb args (qubits + controls) }
 {
-    // std has no From<usize> for u64.
-    qubits <= args && (args - qubits) as u64 == controls
+    qubits <= args && u64::from(args - qubits) == controls
+}
+
+// An error of a call, with a note where its gate is defined in the program.
+fn report_call(
+    sema: SemaContext<'_>,
+    out: &mut [u8],
+    call: Call,
+    message: Message,
+    decl: Option<(Note, Span)>,
+    sink: Sink,
+) -> Sink
+    requires { Below (length (texts sema)) (name_in message) × NoteBelow (length (texts sema)) decl }
+    ensures { Reported (texts sema.entry) (record { severity = Severity.Error; message = message; span = call.span; secondary = decl }) sink out.old result out.new }
+{
+    let d = Diagnostic {
+        severity: Severity::Error,
+        message,
+        span: call.span,
+        secondary: decl,
+    };
+    lines::report(out, sink, sema.texts, d)
 }
 
 fn check_param_count(
     sema: SemaContext<'_>,
     out: &mut [u8],
     call: Call,
-    params: usize,
+    params: u8,
     decl: Option<(Note, Span)>,
     sink: Sink,
 ) -> Sink
     requires { (call.name < length (texts sema)) × NoteBelow (length (texts sema)) decl }
     ensures { Emitted (texts sema.entry) (params_by call params (secondary_of decl)) sink out.old result out.new }
 {
-    let got = call.params;
-    if got == params {
+    if call.params == params {
         return sink;
     }
-    let name = call.name;
-    let span = call.span;
-    let d = Diagnostic {
-        severity: Severity::Error,
-        // std has no From<usize> for u64.
-        message: Message::GateParams(name, params as u64, got as u64),
-        span,
-        secondary: decl,
-    };
-    lines::report(out, sink, sema.texts, d)
+    let message = Message::GateParams(call.name, u64::from(params), u64::from(call.params));
+    report_call(sema, out, call, message, decl, sink)
 }
 
 fn check_qubit_count(
     sema: SemaContext<'_>,
     out: &mut [u8],
     call: Call,
-    qubits: usize,
+    qubits: u8,
     decl: Option<(Note, Span)>,
     sink: Sink,
 ) -> Sink
     requires { (call.name < length (texts sema)) × NoteBelow (length (texts sema)) decl }
     ensures { Emitted (texts sema.entry) (qubits_by call qubits (secondary_of decl)) sink out.old result out.new }
 {
-    let got = call.args;
-    let controls = call.controls;
-    if is_arity(got, qubits, controls) {
+    if is_arity(call.args, qubits, call.controls) {
         return sink;
     }
-    let name = call.name;
-    let span = call.span;
-    let d = Diagnostic {
-        severity: Severity::Error,
-        // std has no From<usize> for u64.
-        message: Message::GateQubits(name, controls, qubits as u64, got as u64),
-        span,
-        secondary: decl,
-    };
-    lines::report(out, sink, sema.texts, d)
+    let message = Message::GateQubits(
+        call.name,
+        call.controls,
+        u64::from(qubits),
+        u64::from(call.args),
+    );
+    report_call(sema, out, call, message, decl, sink)
 }
 
 // Are there as many parameters and arguments as there should be? Asked by each caller, before the call is passed on: most fit.
-fn fits_arity(call: Call, params: usize, qubits: usize) -> bool
+fn fits_arity(call: Call, params: u8, qubits: u8) -> bool
     ensures { result ≡ fits_arity call params qubits }
 {
     call.params == params && is_arity(call.args, qubits, call.controls)
@@ -141,8 +148,8 @@ fn report_arity(
     sema: SemaContext<'_>,
     out: &mut [u8],
     call: Call,
-    params: usize,
-    qubits: usize,
+    params: u8,
+    qubits: u8,
     decl: Option<(Note, Span)>,
     sink: Sink,
 ) -> Sink
@@ -158,29 +165,15 @@ fn check_standard(sema: SemaContext<'_>, out: &mut [u8], call: Call, sink: Sink)
     requires { call.name < length (texts sema) }
     ensures { Emitted (texts sema.entry) (standard_of (texts sema.entry) call) sink out.old result out.new }
 {
-    let name = call.name;
-    let standard = gates::standard_gate_signature(name_of(
-        sema.texts.tree,
-        sema.texts.places,
-        name,
-    ));
-    match standard {
-        Some(gate) => {
-            if fits_arity(call, gate.params, gate.qubits) {
-                return sink;
-            }
-            report_arity(sema, out, call, gate.params, gate.qubits, None, sink)
-        }
-        None => {
-            let span = call.span;
-            lines::report(
-                out,
-                sink,
-                sema.texts,
-                lines::error(Message::GateNotDefined(name), span),
-            )
-        }
+    let name = name_of(sema.texts.tree, sema.texts.places, call.name);
+    let Some(gate) = gates::standard_gate_signature(name) else {
+        let message = Message::GateNotDefined(call.name);
+        return report_call(sema, out, call, message, None, sink);
+    };
+    if fits_arity(call, gate.params, gate.qubits) {
+        return sink;
     }
+    report_arity(sema, out, call, gate.params, gate.qubits, None, sink)
 }
 
 // A definition of the program goes before a standard gate.
@@ -188,26 +181,16 @@ pub fn check_signature(sema: SemaContext<'_>, out: &mut [u8], call: Call, sink: 
     requires { call.name < length (texts sema) }
     ensures { Emitted (texts sema.entry) (signature_by (texts sema.entry) (gates_of sema.entry.scratch.now) call) sink out.old result out.new }
 {
-    let name = call.name;
-    let found = tables::gate(sema.scratch, name);
-    let Some(sig) = found else {
+    let Some(sig) = tables::gate(sema.scratch, call.name) else {
         return check_standard(sema, out, call, sink);
     };
     let params = sig.param_count;
     let qubits = sig.qubit_count;
-    let span = sig.decl_span;
     if fits_arity(call, params, qubits) {
         return sink;
     }
-    report_arity(
-        sema,
-        out,
-        call,
-        params,
-        qubits,
-        Some((Note::DefinedHere(name), span)),
-        sink,
-    )
+    let decl = Some((Note::DefinedHere(call.name), sig.decl_span));
+    report_arity(sema, out, call, params, qubits, decl, sink)
 }
 
 // The modifiers at `at`, and the parameters behind them.
@@ -216,11 +199,7 @@ pub fn check_values(sema: SemaContext<'_>, out: &mut [u8], at: usize, sink: Sink
     ensures { Emitted (texts sema.entry) (check_modifiers (scopes sema.entry) (functions sema.entry) (value_or [] (vec (modifier (texts sema.entry)) sema.entry.texts.tree.now at)) ++ params_say (plain_context (scopes sema.entry) (functions sema.entry)) (value_or no_expr (exprs (held (texts sema.entry)) sema.entry.texts.tree.now (next_of (vec (modifier (texts sema.entry)) sema.entry.texts.tree.now at))))) sink out.old result out.new }
 {
     let a = typing::check_modifiers(sema, out, at, sink);
-    let k = a.next;
-    let checked = a.sink;
-    let b = typing::check_params(sema, out, k, checked);
-    let said = b.sink;
-    said
+    typing::check_params(sema, out, a.next, a.sink).sink
 }
 
 // The operands at `at`: each by itself, and their widths.

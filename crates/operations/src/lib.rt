@@ -57,7 +57,8 @@ fn use_targets(m: Measured<'_, '_>, out: &mut [u8], at: usize, sink: Sink) -> Af
     After { next, sink: s }
 }
 
-// A barrier uses its operands.
+// A barrier uses its operands. `Measured` is made here and in the two others: lent by the walk, it would be made in three arms of its
+// match, and its depth would be a clause beside `left`.
 pub fn barrier<'a>(
     texts: Texts<'a>,
     keys: &'a [Key],
@@ -78,10 +79,9 @@ pub fn barrier<'a>(
     };
     let m = Measured { sema, keys, marks };
     let a = use_targets(m, out, at + 1, sink);
-    let said = a.sink;
     After {
         next: a.next + 8,
-        sink: said,
+        ..a
     }
 }
 
@@ -106,12 +106,10 @@ pub fn delay<'a>(
     };
     let m = Measured { sema, keys, marks };
     let a = typing::require_numeric(sema, out, at + 1, Message::DelayNumeric, sink);
-    let checked = a.sink;
-    let b = use_targets(m, out, a.next, checked);
-    let said = b.sink;
+    let b = use_targets(m, out, a.next, a.sink);
     After {
         next: b.next + 8,
-        sink: said,
+        ..b
     }
 }
 

@@ -55,7 +55,7 @@ fn warn_measured(
     requires { qubit.name < length (texts m.sema) }
     ensures { Emitted (texts m.entry.sema) (unless (not (is_some (lookup_measured (marks m.entry) qubit.name (number_of qubit.index)))) (warning (already_measured (operand_of qubit)) span)) sink out.old result out.new }
 {
-    if sheet::lookup(m.marks, m.keys, qubit.name, qubit.index) == 0 {
+    if sheet::lookup(m.marks, m.keys, qubit.name, qubit.index).is_none() {
         return sink;
     }
     lines::report(

@@ -92,13 +92,13 @@ pub ruleset vecs = (forget-unit, counted-refused, counted_start, repeat-end, rep
 
 -- the values that are read do not matter, where only the place past them is asked
 module _ {A : Type 0} (p : Reader A) (s : List ℕ) where
-  pub option_skip : (at : ℕ) → forget (option (skip p) s at) ≡ forget (option p s at)
-  option_skip at = go (case_byte 2 s at) refl
+  pub option_is : (at : ℕ) → forget (option p s at) ≡ forget (option (skip p) s at)
+  option_is at = go (case_byte 2 s at) refl
     where
-      go : (x : Ans ℕ) → case_byte 2 s at ≡ x → forget (option (skip p) s at) ≡ forget (option p s at)
-      go (ok zero k) e = option-none (skip p) s at k e ∙ sym (option-none p s at k e)
-      go (ok (suc b) k) e = option-some (skip p) s at (suc b) k e (λ z. absurd cc) ∙ forget-unit (forget (p s k)) ∙ sym (option-some p s at (suc b) k e (λ z. absurd cc))
-      go (refused n q) e = option-refused (skip p) s at n q e ∙ sym (option-refused p s at n q e)
+      go : (x : Ans ℕ) → case_byte 2 s at ≡ x → forget (option p s at) ≡ forget (option (skip p) s at)
+      go (ok zero k) e = option-none p s at k e ∙ sym (option-none (skip p) s at k e)
+      go (ok (suc b) k) e = option-some p s at (suc b) k e (λ z. absurd cc) ∙ sym (option-some (skip p) s at (suc b) k e (λ z. absurd cc) ∙ forget-unit (forget (p s k)))
+      go (refused n q) e = option-refused p s at n q e ∙ sym (option-refused (skip p) s at n q e)
 
   repeat_skip : {B : Type 0} (nil : B) (cons : A → B → B) (n k : ℕ) → forget (repeat [] ◌∷◌ (skip p) n s k) ≡ forget (repeat nil cons p n s k)
   unfolding repeat done ◌>>=◌ bind forget
@@ -114,10 +114,12 @@ module _ {A : Type 0} (p : Reader A) (s : List ℕ) where
       go rest (ok a next) = last _ (repeat [] ◌∷◌ (skip p) n s next) (repeat nil cons p n s next) (rest next) ∙ sym (last _ (repeat nil cons p n s next) (repeat nil cons p n s next) refl)
       go rest (refused o r) = refl
 
-  pub vec_skip : {B : Type 0} (nil : B) (cons : A → B → B) (at : ℕ) → forget (vec (skip p) s at) ≡ forget (counted nil cons p s at)
+  pub vec_is : {B : Type 0} (nil : B) (cons : A → B → B) (at : ℕ) → forget (counted nil cons p s at) ≡ forget (vec (skip p) s at)
   unfolding counted ◌>>=◌ bind forget
-  vec_skip {B} nil cons at = go (count s at)
+  vec_is {B} nil cons at = go (count s at)
     where
-      go : (x : Ans ℕ) → forget (bind x (λ n next. repeat [] ◌∷◌ (skip p) n s next)) ≡ forget (bind x (λ n next. repeat nil cons p n s next))
-      go (ok n next) = repeat_skip nil cons n next
+      go : (x : Ans ℕ) → forget (bind x (λ n next. repeat nil cons p n s next)) ≡ forget (bind x (λ n next. repeat [] ◌∷◌ (skip p) n s next))
+      go (ok n next) = sym (repeat_skip nil cons n next)
       go (refused o r) = refl
+
+pub ruleset skips = (option_is, vec_is)

@@ -145,4 +145,4 @@ module _ (s : List ℕ) (kinds : List Spelling) (known : kinds ≡ kinds_of s) (
   unfolding check refuse ◌>>◌ bind
   spelled-other e = sym (rw (spelled-after (texts_of s) s at (of_kind kind), ← read, ← told, e) refl)
 
-pub ruleset named = (allowed_none, allowed_some, length-kinds_of)
+pub ruleset named = (allowed_none, allowed_some, length-kinds_of, spelled-read, spelled-other)

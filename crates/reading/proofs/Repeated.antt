@@ -93,3 +93,7 @@ module _ (s : List ℕ) (x : Text) (sums : List ℕ) (k i : ℕ) (looking : Look
       pub looking-more : r ≡ false → (m : ℕ) → m ≡ past s k → Looking s x sums m (drop (i + 1) sums)
       unfolding texts_from past_texts among
       looking-more t m f = rw f (record { within = next.within; summed = (let e = next.summed in cc); remain = next.remain ∙ rw (← g, t) refl })
+
+pub ruleset same_texts = (pointwise_same, text-other)
+
+pub ruleset repeated = (not_repeated, looking-within, looking-sum, looking-here)

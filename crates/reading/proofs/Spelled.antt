@@ -77,4 +77,4 @@ fraction_none x e = fraction_by x ∙ go (ltb (end x) (length x)) e
     go true e = absurd cc
     go false e = refl
 
-pub ruleset spelled = (digits_some, name_some, fraction_none)
+pub ruleset spelled = (digits_some, name_some, fraction_none, fraction_stop)

@@ -69,3 +69,5 @@ summing-one x h rest i summing s l b r e f = record {
 pub summing-end : (x : Text) (h : ℕ) (rest : Text) (i : ℕ) → Summing x h (drop i rest) → length rest ≤ i → h ≡ checksum x
 unfolding sum_from
 summing-end x h rest i summing l = sym (summing.left ∙ rw (drop_of_length-le rest l) refl)
+
+pub ruleset sums = (summing_start, summing_eight, summing-four, summing-one, summing-end)

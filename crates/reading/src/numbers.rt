@@ -1,7 +1,8 @@
 // The values that every part of the tree file is made of.
-#![tactic(auto, unfolding(crate::specs::Answers::forget, tree::specs::Ans::bind, tree::specs::Ans::here, tree::specs::Ans::check, tree::specs::Ans::done, tree::specs::Ans::refuse, tree::specs::Read::within, tree::specs::Read::byte, tree::specs::Read::bytes, tree::specs::Read::number, tree::specs::Read::span, tree::specs::Read::case_byte, tree::specs::Read::count, tree::specs::Stmts::slice), using(crate::proofs::Steps::steps))]
+#![tactic(auto, unfolding(crate::specs::Answers::forget, tree::specs::Ans::bind, tree::specs::Ans::here, tree::specs::Ans::check, tree::specs::Ans::done, tree::specs::Ans::refuse, tree::specs::Read::within, tree::specs::Read::byte, tree::specs::Read::bytes, tree::specs::Read::number, tree::specs::Read::span, tree::specs::Read::case_byte, tree::specs::Read::count, tree::specs::Stmts::slice), using(crate::proofs::Steps::steps, crate::proofs::Held::skips))]
 
 ghost use Rattle.std.specs.Prelude.{◌≡◌, ◌<◌};
+ghost use Rattle.tree.specs.Ans.{bind};
 ghost use Rattle.tree.specs.Read.{byte, bytes, u16, u64, span, case_byte, option, count};
 ghost use Rattle.tree.specs.Stmts.{slice};
 ghost use Rattle.reading.specs.Answers.{answer, forget};
@@ -101,6 +102,18 @@ pub fn pass_span(s: &[u8], at: usize) -> Read<()>
     ensures { answer result ≡ forget (span s.now at) }
 {
     read_span(s, at).into_place()
+}
+
+impl<T: Copy> Read<T> {
+    // The span behind a value, passed over too: a case that holds one value is read so.
+    pub fn then_span(self, s: &[u8]) -> Read<()>
+        ensures { answer result ≡ bind (answer self) (λ value k. forget (span s.now k)) }
+    {
+        let Read::At(_, k) = self else {
+            return self.into_place();
+        };
+        pass_span(s, k)
+    }
 }
 
 pub fn read_optional_u64(s: &[u8], at: usize) -> Read<()>

@@ -5,7 +5,8 @@ ghost use Rattle.std.specs.Prelude.{◌≡◌, ℕ, ◌<◌, ◌^◌, Bool, not,
 ghost use Rattle.tree.specs.Texts.{letter, digit, every, digits, fraction, is_name, is_float};
 ghost use Rattle.reading.specs.Section.{kind_of, mix, checksum as sum_of};
 
-// A float literal's spelling is no name's.
+// A float literal's spelling is no name's. `Neither` is a kind as the others, since two kinds are only compared: an Option would add
+// `Some` to each.
 #[derive(Clone, Copy, PartialEq, Eq)]
 pub enum Spelling {
     Neither,
@@ -100,6 +101,7 @@ fn mixed_twice(h: u64, v: u32, w: u32) -> u64
     (h * 24649 + u64::from(v) * 157 + u64::from(w)) % SUM_LIMIT
 }
 
+#[tactic(auto, using(crate::proofs::Sums::sums))]
 pub(crate) fn checksum(x: &[u8]) -> u64
     ensures { result ≡ sum_of x.now }
 {

@@ -65,7 +65,9 @@ fn text_at(s: &[u8], at: usize) -> &[u8]
     &s[at + 1..past_text(s, at)]
 }
 
-// Whether a text equals the one at `at`, given the checksums of both.
+// Whether a text equals the one at `at`, given the checksums of both. Text and checksum apart: as a struct, 250 texts of one checksum
+// took 9% more.
+#[tactic(auto, using(crate::proofs::Repeated::same_texts))]
 fn is_text(s: &[u8], at: usize, other: u64, x: &[u8], sum: u64) -> bool
     requires at_in_bounds { past s.now at ≤ length s.now }
     requires other_value { other ≡ checksum (text_at s.now at) }
@@ -93,6 +95,7 @@ fn has_sum(sums: &[u64], sum: u64) -> bool
 }
 
 // Whether a text equals one of the first, whose checksums are lent.
+#[tactic(auto, unfolding(tree::specs::Texts::among), using(crate::proofs::Repeated::repeated))]
 fn is_repeated(s: &[u8], x: &[u8], sum: u64, sums: &[u64]) -> bool
     requires sum_value { sum ≡ checksum x.now }
     requires sums_in_bounds { past_texts s.now (length sums.now) 2 ≤ length s.now }
@@ -154,9 +157,11 @@ pub fn read_texts(s: &[u8], first: usize, n: usize, kinds: &mut [Spelling; TEXTS
     requires kinds_len { length kinds.old ≡ 256 }
     ensures { Gathered s.now kinds.new n result }
 {
+    // Beside the kinds, and not in one struct with them: no one asks for the checksums later, and `has_sum` compares several at once.
     let mut sums = [0u64; TEXTS_LIMIT];
     let mut met = [false; SLOTS];
     let mut k = first;
+    // By number: it says how many checksums are lent, so an iterator over the kinds would have to count too.
     for i in 0..n {
         let a = read_text(s, k);
         let Read::At(kind, next) = a else {

@@ -137,7 +137,8 @@ pub fn declaration_at(tree: &[u8], at: usize, left: usize) -> Declaration
 }
 
 // A Vec of names into the innermost scope. Beside `insert_params`: names and parameters differ in stride and kind, and one
-// function that takes both as parameters is no plainer.
+// function that takes both as parameters is no plainer. By places, as all of the tree is read: over chunks a number would stand in
+// a slice of its own.
 #[tactic(auto, using(crate::proofs::Filling::names))]
 fn insert_names(
     tree: &[u8],

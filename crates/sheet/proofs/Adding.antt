@@ -52,6 +52,8 @@ module _ (index : List KeyValue) (count : ℕ) (k : KeyValue) (r : Maybe ℕ) (t
         let l : count < length index = omega (arith, t.few, t.size) in
         (keys-stored index count k l ∙ sym (add-new (keys_in index count) (key_of k) (has b s ∙ h)), omega (arith, t.few))
 
+pub ruleset added = (added-there, added-over, added_new)
+
 -- a key that stands at a number is there
 has_at : (l : Key) (ks : List KeyValue) (j : ℕ) → j < length ks → same_key (key_of (nth ks j)) l ≡ true → has_key (keys_of ks) l ≡ true
 has_at l [] j h e = absurd (omega arith)
@@ -60,9 +62,9 @@ has_at l (k ∷ ks) (suc j) h e =
     by_test (same_key (key_of k) l) (λ t. has_here (key_of k) (keys_of ks) l t)
     (λ t. has_there (key_of k) (keys_of ks) l t ∙ has_at l ks j (omega arith) e)
 
-pub added-near : (index : List KeyValue) (count : ℕ) (k : KeyValue) (near : ℕ) (r : Bool) → Indexed index count → near < count → r ≡ same (nth index near) k → r ≡ true
+pub added_near : (index : List KeyValue) (count : ℕ) (k : KeyValue) (near : ℕ) (r : Bool) → Indexed index count → near < count → r ≡ same (nth index near) k → r ≡ true
     → Grown index (Some count) (add_key (keys_in index count) (key_of k))
-added-near index count k near r t h e f =
+added_near index count k near r t h e f =
     let b : nth (take count index) near ≡ nth index near = get_or-take count index near _ h in
     (sym (add-there (keys_in index count) (key_of k) (has_at (key_of k) (take count index) near (omega (arith, length-take count index, t.few, t.size)) (rw b (sym (same_is (nth index near) k) ∙ sym e ∙ f)))), t.few)
 
@@ -122,3 +124,5 @@ module _ (before : List KeyValue) (count x i n m : ℕ) (index : List KeyValue) 
       let e : m - j ≡ 0 = omega arith in
       let s : keys_in index c ≡ add_range (keys_in before count) x i n = rw e at a.same in
       (s, a.table.few)
+
+pub ruleset adding = (adding-start, adding-over, adding-more, adding-end)

@@ -26,10 +26,12 @@ pub slice-some : (after : List KeyValue) (ks : List Key) (x a b n : ℕ) (r : Ma
     → Grown after r (add_range ks x a (n + 1)) → Grown after r (add_range ks x a (suc b - a))
 slice-some after ks x a b n r l e k = rw (range_most ks x a (suc b - a) (n + 1) (omega arith)) k
 
+pub ruleset slices = (slice-none, slice-some)
+
 -- a name alone, where there is no room for its key
-pub whole-over : (mid : List KeyValue) (ks : List Key) (x : ℕ) (l : Key) (size : Maybe ℕ) (r : Maybe ℕ) → l ≡ key x none → r ≡ None → 256 < length (add_key ks l)
+pub whole_over : (mid : List KeyValue) (ks : List Key) (x : ℕ) (l : Key) (size : Maybe ℕ) (r : Maybe ℕ) → l ≡ key x none → r ≡ None → 256 < length (add_key ks l)
     → Grown mid r (add_range (add_key ks (key x none)) x 0 (or0 (number_of size)))
-whole-over mid ks x l size r e f k =
+whole_over mid ks x l size r e f k =
     let whole = add_key ks (key x none) in
     let m : 256 < length whole = rw e at k in
     let long = keep_range (AtLeast (length whole)) (more-long (length whole)) whole x 0 (or0 (number_of size)) (omega arith) in

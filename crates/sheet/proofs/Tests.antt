@@ -22,8 +22,8 @@ pub same_is : (a b : KeyValue) → same a b ≡ same_key (key_of a) (key_of b)
 unfolding same_key
 same_is a b = rw (same-index a.index b.index)
 
-pub same-decoded : (a b : KeyValue) (r : Bool) → r ≡ same a b → r ≡ same_key (key_of a) (key_of b)
-same-decoded a b r e = e ∙ same_is a b
+pub same_decoded : (a b : KeyValue) (r : Bool) → r ≡ same a b → r ≡ same_key (key_of a) (key_of b)
+same_decoded a b r e = e ∙ same_is a b
 
 -- the keys that a measure of an operand sets, and those that a reset clears
 abbrev pub set_by : Option ℕ → GateOperand → Key → Bool

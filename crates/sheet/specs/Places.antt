@@ -9,7 +9,8 @@ use Rattle.sema.specs.Symbols.{or_else}
 use Rattle.sema.specs.Marks.{Key, key, lookup_measured}
 use Rattle.sema.specs.Keys.{same_index, same_key, has_key}
 use Rattle.context.specs.View.{place_in, mark_by, marks_of}
-use Rattle.sheet.specs.Sheet.{first, lookup_in}
+use Rattle.std.specs.Prelude.{Some, None, is_some}
+use Rattle.sheet.specs.Sheet.{first, marked, lookup_in}
 
 -- a test is true or false
 pub by_test : {A : Type 0} (b : Bool) → (b ≡ true → A) → (b ≡ false → A) → A
@@ -67,6 +68,26 @@ unplaced (l ∷ ls) (v ∷ vs) k h =
     by_test (same_key l k)
     (λ e. absurd (false≢true (sym h ∙ has_here l ls k e)))
     (λ e. place-there l ls k v vs e ∙ unplaced ls vs k (sym (has_there l ls k e) ∙ h))
+
+-- a place that is none, and one that is not
+pub unmarked : (p : ℕ) → is_some (marked p) ≡ false → p ≡ 0
+unmarked zero e = refl
+unmarked (suc p) e = absurd (false≢true (sym e))
+
+pub is_marked : (p : ℕ) → is_some (marked p) ≡ true → (p ≡ 0 → ⊥)
+is_marked zero e = λ z. false≢true e
+is_marked (suc p) e = λ z. omega arith
+
+pub marked-some : (p : ℕ) → (p ≡ 0 → ⊥) → marked p ≡ Some p
+marked-some zero f = absurd (f refl)
+marked-some (suc p) f = refl
+
+pub marked-none : (p : ℕ) → marked p ≡ None → p ≡ 0
+marked-none p e = unmarked p (rw e)
+
+pub marked-is : (p q : ℕ) → marked p ≡ Some q → (p ≡ q) × (q ≡ 0 → ⊥)
+marked-is zero q e = cc
+marked-is (suc p) q e = let f : suc p ≡ q = cc in (f, λ z. omega arith)
 
 pub first-zero : (a b : ℕ) → a ≡ 0 → first a b ≡ b
 first-zero a b e = rw e

@@ -25,6 +25,11 @@ abbrev pub first : ℕ → ℕ → ℕ
 first zero b = b
 first (suc a) b = suc a
 
+-- a place of the sheet, where 0 is none
+abbrev pub marked : ℕ → Maybe ℕ
+marked zero = None
+marked (suc p) = Some (suc p)
+
 -- "q by its whole key only; q[i] by its own and the whole key"
 unfoldable pub lookup_in : List Key → List ℕ → TextNumber → Option ℕ → ℕ
 lookup_in ks sheet x none = place_in ks sheet (key x none)
@@ -34,6 +39,11 @@ lookup_in ks sheet x (some i) = first (place_in ks sheet (key x (some i))) (plac
 unfoldable pub smaller : ℕ → ℕ → Maybe (ℕ × ℕ) → Maybe (ℕ × ℕ)
 smaller i p None = Some (i, p)
 smaller i p (Some (j, q)) = cond (leb i j) (Some (i, p)) (Some (j, q))
+
+-- of two the smaller, and the first where they are equal
+unfoldable pub nearer : Maybe (ℕ × ℕ) → Maybe (ℕ × ℕ) → Maybe (ℕ × ℕ)
+nearer None c = c
+nearer (Some (i, p)) c = smaller i p c
 
 -- an index with its place, if it has one
 unfoldable pub offer : Option ℕ → ℕ → Maybe (ℕ × ℕ) → Maybe (ℕ × ℕ)

@@ -6,12 +6,13 @@ ghost use Rattle.sheet.specs.Sheet.{reached};
 
 use context::{GateOperand, Key};
 
-// The key has an index of the slice.
+// It is an index of the slice.
 #[tactic(auto, unfolding(sema::specs::Marks::in_slice))]
-fn is_within(key: Key, a: u64, b: u64) -> bool
-    ensures { result ≡ in_slice (a, b) (number_of key.index) }
+pub(crate) fn is_within(index: Option<u64>, ends: (u64, u64)) -> bool
+    ensures { result ≡ in_slice ends (number_of index) }
 {
-    matches!(key.index, Some(i) if a <= i && i <= b)
+    let (a, b) = ends;
+    index.is_some_and(|i| (a..=b).contains(&i))
 }
 
 // It is a name alone, or an index below the size.
@@ -31,7 +32,7 @@ pub(crate) fn is_reached(op: GateOperand, key: Key, whole: bool) -> bool
     ensures { result ≡ reached (ends_of op.slice) (number_of op.index) (number_of key.index) whole }
 {
     match (op.slice, op.index) {
-        (Some((a, b)), _) => is_within(key, a, b),
+        (Some(ends), _) => is_within(key.index, ends),
         (None, Some(_)) => key.index == op.index,
         (None, None) => whole,
     }

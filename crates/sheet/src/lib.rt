@@ -5,17 +5,17 @@
 mod keys;
 pub mod new_keys;
 
-ghost use Rattle.std.specs.Prelude.{◌≡◌, List, Bool, cond, ℕ, ◌≤◌, ◌<◌, length};
+ghost use Rattle.std.specs.Prelude.{◌≡◌, List, Bool, cond, ℕ, ◌≤◌, ◌<◌, length, Some, None};
 ghost use Rattle.span.specs.declared.Span.{Span};
 ghost use Rattle.sema.specs.Marks.{Key as MarkKey, no_marks, in_slice, apply, clear_measured, unite as uniteMarks};
 ghost use Rattle.sema.specs.Keys.{same_key};
 ghost use Rattle.context.specs.Values.{number_of, operand_of, key_of};
 ghost use Rattle.context.specs.View.{keys_of, marks_of, measure_span, PlaceOk, Placed};
-ghost use Rattle.sheet.specs.Sheet.{lookup_in, smaller, offer, least_in, smallest_in, Distinct, Covers, measuring, stored, first};
+ghost use Rattle.sheet.specs.Sheet.{marked, lookup_in, nearer, offer, least_in, smallest_in, Distinct, Covers, measuring, stored, first};
 ghost use Rattle.sheet.specs.Behind.{Blank};
 
 use context::{GateOperand, Key};
-use keys::{is_below, is_reached};
+use keys::{is_below, is_reached, is_within};
 
 // A place, or another where it is none.
 fn either(place: u16, other: u16) -> u16
@@ -25,6 +25,7 @@ fn either(place: u16, other: u16) -> u16
 }
 
 // The place of a key where it has one and is the key sought, or else the place that was met before.
+#[tactic(auto, using(crate::proofs::Looking::meeting, crate::proofs::Tests::same_decoded))]
 fn met(own: Key, place: u16, key: Key, before: u16) -> u16
     ensures { result ≡ first (cond (same_key (key_of own) (key_of key)) place 0) before }
 {
@@ -35,12 +36,18 @@ fn met(own: Key, place: u16, key: Key, before: u16) -> u16
     }
 }
 
-// The place of the mark that covers a name, or an index of it; 0 where there is none. No two keys are equal, so one without a mark is
-// not read.
-pub fn lookup(sheet: &[u16; 256], keys: &[Key], x: usize, i: Option<u64>) -> u16
+// A place of the sheet. The sheet has 0 for none: in fixed memory, and one comparison serves many places at once.
+fn marked(place: u16) -> Option<u16>
+    ensures { result ≡ marked place }
+{
+    (place != 0).then_some(place)
+}
+
+// The place of the mark that covers a name, or an index of it. No two keys are equal, so one without a mark is not read.
+pub fn lookup(sheet: &[u16; 256], keys: &[Key], x: usize, i: Option<u64>) -> Option<u16>
     requires few { length keys.now ≤ 256 }
     requires distinct { Distinct (keys_of keys.now) }
-    ensures { result ≡ lookup_in (keys_of keys.now) sheet.now x (number_of i) }
+    ensures { result ≡ marked (lookup_in (keys_of keys.now) sheet.now x (number_of i)) }
 {
     let key = Key { name: x, index: i };
     let name = Key {
@@ -49,71 +56,70 @@ pub fn lookup(sheet: &[u16; 256], keys: &[Key], x: usize, i: Option<u64>) -> u16
     };
     let mut own = 0;
     let mut whole = 0;
-    // The place by its number, as in `unite`.
-    for (k, met_key) in keys.iter().enumerate() {
-        let place = sheet[k];
-        own = met(*met_key, place, key, own);
-        whole = met(*met_key, place, name, whole);
+    // As many places as keys: the loop has one end to test.
+    for (met_key, place) in keys.iter().zip(&sheet[..keys.len()]) {
+        own = met(*met_key, *place, key, own);
+        whole = met(*met_key, *place, name, whole);
     }
-    either(own, whole)
+    marked(either(own, whole))
 }
 
-#[tactic(auto, unfolding(crate::specs::Sheet::smaller))]
-fn nearer(i: u64, place: u16, best: Option<(u64, u16)>) -> Option<(u64, u16)>
-    ensures { result ≡ smaller i place best }
+#[tactic(auto, unfolding(crate::specs::Sheet::nearer, crate::specs::Sheet::smaller))]
+fn nearer(best: Option<(u64, u16)>, i: u64, place: u16) -> Option<(u64, u16)>
+    ensures { result ≡ nearer best (Some (i, place)) }
 {
     match best {
-        Some((j, _)) if j < i => best,
+        Some((j, _)) if j <= i => best,
         _ => Some((i, place)),
     }
 }
 
 // The smallest index so far, one more taken in where it is of the slice.
-#[tactic(auto, unfolding(crate::specs::Sheet::offer, sema::specs::Marks::in_slice))]
+#[tactic(auto, using(crate::proofs::Loops::offering))]
 fn offered(
+    best: Option<(u64, u16)>,
     index: Option<u64>,
     place: u16,
-    a: u64,
-    b: u64,
-    best: Option<(u64, u16)>,
+    ends: (u64, u64),
 ) -> Option<(u64, u16)>
     requires { 0 < place }
-    ensures { result ≡ cond (in_slice (a, b) (number_of index)) (offer (number_of index) place best) best }
+    ensures { result ≡ nearer best (cond (in_slice ends (number_of index)) (offer (number_of index) place None) None) }
 {
     match index {
-        Some(i) if a <= i && i <= b => nearer(i, place, best),
+        Some(i) if is_within(index, ends) => nearer(best, i, place),
         _ => best,
     }
 }
 
 // The smallest index of a slice whose own key is marked.
-fn least(sheet: &[u16; 256], keys: &[Key], x: usize, a: u64, b: u64) -> Option<(u64, u16)>
+fn least(sheet: &[u16; 256], keys: &[Key], x: usize, ends: (u64, u64)) -> Option<(u64, u16)>
     requires { length keys.now ≤ 256 }
-    ensures { result ≡ least_in x (a, b) (keys_of keys.now) sheet.now }
+    ensures { result ≡ least_in x ends (keys_of keys.now) sheet.now }
 {
     let mut best = None;
-    for k in (0..keys.len()).rev() {
-        let place = sheet[k];
-        let key = keys[k];
-        if place != 0 && key.name == x {
-            best = offered(key.index, place, a, b, best);
+    // As many places as keys, as in `lookup`.
+    for (key, place) in keys.iter().zip(&sheet[..keys.len()]) {
+        if *place != 0 && key.name == x {
+            best = offered(best, key.index, *place, ends);
         }
     }
     best
 }
 
 // The smallest index of a slice that a mark covers, and the mark's place.
-pub fn smallest(sheet: &[u16; 256], keys: &[Key], x: usize, a: u64, b: u64) -> Option<(u64, u16)>
+#[tactic(auto, using(crate::proofs::Answers::least_covered))]
+pub fn smallest(sheet: &[u16; 256], keys: &[Key], x: usize, ends: (u64, u64)) -> Option<(u64, u16)>
     requires few { length keys.now ≤ 256 }
     requires distinct { Distinct (keys_of keys.now) }
-    ensures { result ≡ smallest_in (keys_of keys.now) sheet.now x (a, b) }
+    ensures { result ≡ smallest_in (keys_of keys.now) sheet.now x ends }
 {
+    let (a, b) = ends;
     if b < a {
         None
-    } else if lookup(sheet, keys, x, None) == 0 {
-        least(sheet, keys, x, a, b)
+    } else if lookup(sheet, keys, x, None).is_none() {
+        least(sheet, keys, x, ends)
     } else {
-        Some((a, lookup(sheet, keys, x, Some(a))))
+        lookup(sheet, keys, x, Some(a)).map(|place| (a, place))
     }
 }
 
@@ -123,6 +129,7 @@ fn store<F: Fn(Key) -> bool>(sheet: &mut [u16; 256], keys: &[Key], place: u16, t
     requires callable { F.IsAlwaysCallable test }
     ensures { (t : MarkKey → Bool) → ((k : Key) (r : Bool) → F.post test k r → r ≡ t (key_of k)) → sheet.new ≡ stored t place (keys_of keys.now) sheet.old }
 {
+    // The place by its number, as in `unite`.
     for (k, key) in keys.iter().enumerate() {
         if test(*key) {
             sheet[k] = place;

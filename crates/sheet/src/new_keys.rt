@@ -22,6 +22,8 @@ fn find(keys: &[Key], key: Key) -> Option<usize>
 }
 
 // A key more, if it is not there; None where there is no room, and the index is as it was.
+// The index is lent and its count a value beside it: fixed memory, there is no Vec.
+#[tactic(auto, using(crate::proofs::Adding::added))]
 fn add_key(index: &mut [Key], count: usize, key: Key) -> Option<usize>
     requires indexed { Indexed index.old count }
     ensures added { Grown index.new result (add_key (keys_in index.old count) (key_of key)) }
@@ -38,6 +40,7 @@ fn add_key(index: &mut [Key], count: usize, key: Key) -> Option<usize>
 }
 
 // As add_key, where the key may stand at a number that is near.
+#[tactic(auto, using(crate::proofs::Adding::added_near))]
 fn add_near(index: &mut [Key], count: usize, near: usize, key: Key) -> Option<usize>
     requires indexed { Indexed index.old count }
     ensures added { Grown index.new result (add_key (keys_in index.old count) (key_of key)) }
@@ -50,6 +53,7 @@ fn add_near(index: &mut [Key], count: usize, near: usize, key: Key) -> Option<us
 }
 
 // So many indices of a name, from i on; None where there is no room for all.
+#[tactic(auto, using(crate::proofs::Adding::adding))]
 fn add_range(index: &mut [Key], count: usize, x: usize, i: u64, n: u64) -> Option<usize>
     requires indexed { Indexed index.old count }
     requires bound { i + n ≤ 2 ^ 64 }
@@ -80,10 +84,12 @@ fn add_range(index: &mut [Key], count: usize, x: usize, i: u64, n: u64) -> Optio
 }
 
 // Each index of a slice.
-fn add_slice(index: &mut [Key], count: usize, x: usize, a: u64, b: u64) -> Option<usize>
+#[tactic(auto, using(crate::proofs::Measured::slices))]
+fn add_slice(index: &mut [Key], count: usize, x: usize, ends: (u64, u64)) -> Option<usize>
     requires indexed { Indexed index.old count }
-    ensures { Grown index.new result (add_range (keys_in index.old count) x a (suc b - a)) }
+    ensures { Grown index.new result (add_range (keys_in index.old count) x ends.0 (suc ends.1 - ends.0)) }
 {
+    let (a, b) = ends;
     if b < a {
         return Some(count);
     }
@@ -91,7 +97,7 @@ fn add_slice(index: &mut [Key], count: usize, x: usize, a: u64, b: u64) -> Optio
 }
 
 // The whole key, and each index below the size.
-#[tactic(auto, unfolding(sema::specs::Keys::add_range, sema::specs::Keys::add_indices))]
+#[tactic(auto, using(crate::proofs::Measured::whole_over), unfolding(sema::specs::Keys::add_range, sema::specs::Keys::add_indices))]
 fn add_whole(index: &mut [Key], count: usize, x: usize, size: Option<u64>) -> Option<usize>
     requires indexed { Indexed index.old count }
     ensures { Grown index.new result (add_range (add_key (keys_in index.old count) (key x none)) x 0 (or0 (number_of size))) }
@@ -122,7 +128,7 @@ pub fn add_measured(
     ensures { Grown index.new result (add_measured (keys_in index.old count) op.name (number_of size) (ends_of op.slice) (number_of op.index)) }
 {
     match (op.slice, op.index) {
-        (Some((a, b)), _) => add_slice(index, count, op.name, a, b),
+        (Some(ends), _) => add_slice(index, count, op.name, ends),
         (None, Some(_)) => add_key(
             index,
             count,

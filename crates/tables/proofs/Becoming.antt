@@ -96,8 +96,8 @@ begun {u = u} b r =
       same_rest = same_drop o tables_end (omega arith) ∙ b.same_rest;
     }
 
-pub gate-defined : (s t : List ℕ) (x : ℕ) (g : GateSig) → 65536 ≤ length s → x < 256 → t ≡ sets s (gate_place x) (gate_bytes g) → SpanFits g.decl_span → GateDefined s t x g
-gate-defined s t x g room small e h depth few =
+pub gate_defined : (s t : List ℕ) (x : ℕ) (g : GateSig) → 65536 ≤ length s → x < 256 → t ≡ sets s (gate_place x) (gate_bytes g) → SpanFits g.decl_span → GateDefined s t x g
+gate_defined s t x g room small e h depth few =
     let at = gate_place x in
     let b = gate_bytes g in
     let l = length-gate g in

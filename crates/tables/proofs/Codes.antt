@@ -48,5 +48,5 @@ has_code code k e = sym (kind_code k) ∙ ap (λ n. get_or kinds (n - 1) Qubit) 
 pub kind_classical : (code : ℕ) (ty : ClassicalType) → 3 ≤ code → code < 8 → ty ≡ type_of (code - 3) → Classical ty ≡ get_or kinds (code - 1) Qubit
 kind_classical code ty l h e = has_code code (Classical ty) (omega (arith, number-type (code - 3) (omega arith), ap number_of e))
 
-pub kind-const : (code : ℕ) (ty : ClassicalType) → 8 ≤ code → code < 13 → ty ≡ type_of (code - 8) → Const ty ≡ get_or kinds (code - 1) Qubit
-kind-const code ty l h e = has_code code (Const ty) (omega (arith, number-type (code - 8) (omega arith), ap number_of e))
+pub kind_const : (code : ℕ) (ty : ClassicalType) → 8 ≤ code → code < 13 → ty ≡ type_of (code - 8) → Const ty ≡ get_or kinds (code - 1) Qubit
+kind_const code ty l h e = has_code code (Const ty) (omega (arith, number-type (code - 8) (omega arith), ap number_of e))

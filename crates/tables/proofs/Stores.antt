@@ -48,18 +48,18 @@ pub no_size_fits : (z : Maybe ℕ) → z ≡ None → OptionFits (NumberFits 8) 
 unfolding OptionFits
 no_size_fits z e = rw e tt
 
-pub symbol-stored : (s t u v : List ℕ) (c at code : ℕ) (sym : Symbol) → code ≡ code_of sym.kind → t ≡ set s c code → u ≡ sets t at (size_bytes sym.size) → v ≡ sets u (at + 9) (span_bytes sym.decl_span) → v ≡ sets (set s c (code_of sym.kind)) at (symbol_bytes sym)
+pub symbol_stored : (s t u v : List ℕ) (c at code : ℕ) (sym : Symbol) → code ≡ code_of sym.kind → t ≡ set s c code → u ≡ sets t at (size_bytes sym.size) → v ≡ sets u (at + 9) (span_bytes sym.decl_span) → v ≡ sets (set s c (code_of sym.kind)) at (symbol_bytes sym)
 unfolding symbol_bytes
-symbol-stored s t u v c at code sym k e f g =
+symbol_stored s t u v c at code sym k e f g =
     rw (e, k) at (joined (size_bytes sym.size) (span_bytes sym.decl_span) t u v at 9 (length-size sym.size) f g)
 
 -- three bytes, and more behind them
 threes : (s t : List ℕ) (at a b c : ℕ) (xs : List ℕ) → t ≡ sets (set (set (set s at a) (at + 1) b) (at + 2) c) (at + 3) xs → t ≡ sets s at (a ∷ b ∷ c ∷ xs)
 threes s t at a b c xs e = simp towards_suc at e
 
-pub gate-stored : (s t : List ℕ) (at : ℕ) (g : GateSig) → t ≡ sets (set (set (set s at 1) (at + 1) g.param-count) (at + 2) g.qubit-count) (at + 3) (span_bytes g.decl_span) → t ≡ sets s at (gate_bytes g)
+pub gate_stored : (s t : List ℕ) (at : ℕ) (g : GateSig) → t ≡ sets (set (set (set s at 1) (at + 1) g.param-count) (at + 2) g.qubit-count) (at + 3) (span_bytes g.decl_span) → t ≡ sets s at (gate_bytes g)
 unfolding gate_bytes
-gate-stored s t at g = threes s t at 1 g.param-count g.qubit-count (span_bytes g.decl_span)
+gate_stored s t at g = threes s t at 1 g.param-count g.qubit-count (span_bytes g.decl_span)
 
 pub function_stored : (s t : List ℕ) (at n count : ℕ) (ty : ClassicalType) (sp : Span) → n ≡ number_of ty → t ≡ sets (set (set (set s at 1) (at + 1) n) (at + 2) count) (at + 3) (span_bytes sp) → t ≡ sets s at (function_bytes ty sp count [])
 unfolding function_bytes

@@ -22,8 +22,8 @@ use Rattle.tables.specs.Tables.{brief_of, params_of}
 some-suc : (n : ℕ) → (n ≡ 0 → ⊥) → n ≡ suc (n - 1)
 some-suc n h = omega arith
 
-pub symbol-none : (s : List ℕ) (level x : ℕ) → get_or s (code_place level x) 0 ≡ 0 → found_of None ≡ symbol_at s level x
-symbol-none s level x e = rw e
+pub symbol_none : (s : List ℕ) (level x : ℕ) → get_or s (code_place level x) 0 ≡ 0 → found_of None ≡ symbol_at s level x
+symbol_none s level x e = rw e
 
 symbol-some : (s : List ℕ) (level x : ℕ) (v : SymbolValue) → (get_or s (code_place level x) 0 ≡ 0 → ⊥) → kind_of v.kind ≡ get_or kinds (get_or s (code_place level x) 0 - 1) Qubit → number_of v.size ≡ size_by (get_or s (symbol_place level x) 0) (number_at 8 s (symbol_place level x + 1)) → v.decl_span ≡ span_at s (symbol_place level x + 9) → found_of (Some v) ≡ symbol_at s level x
 symbol-some s level x v h k z p =
@@ -87,13 +87,13 @@ module _ {s : List ℕ} {depth x left : ℕ} (r : Seeking s depth x left) where
   unfolding scopes_of get
   seeking-end h = let n : left ≡ 0 = omega arith in sym (rw n at r.same)
 
-pub gate-none : (s : List ℕ) (x : ℕ) → x < 256 → get_or s (gate_place x) 0 ≡ 0 → found_gate_of None ≡ gates_of s x
+pub gate_none : (s : List ℕ) (x : ℕ) → x < 256 → get_or s (gate_place x) 0 ≡ 0 → found_gate_of None ≡ gates_of s x
 unfolding gates_of
-gate-none s x h e = rw (lt-ltb x 256 h, e)
+gate_none s x h e = rw (lt-ltb x 256 h, e)
 
-pub gate-some : (s : List ℕ) (x : ℕ) (g : GateValue) → x < 256 → (get_or s (gate_place x) 0 ≡ 0 → ⊥) → g.param_count ≡ get_or s (gate_place x + 1) 0 → g.qubit_count ≡ get_or s (gate_place x + 2) 0 → g.decl_span ≡ span_at s (gate_place x + 3) → found_gate_of (Some g) ≡ gates_of s x
+pub gate_some : (s : List ℕ) (x : ℕ) (g : GateValue) → x < 256 → (get_or s (gate_place x) 0 ≡ 0 → ⊥) → g.param_count ≡ get_or s (gate_place x + 1) 0 → g.qubit_count ≡ get_or s (gate_place x + 2) 0 → g.decl_span ≡ span_at s (gate_place x + 3) → found_gate_of (Some g) ≡ gates_of s x
 unfolding gates_of
-gate-some s x g h n a b e = rw (lt-ltb x 256 h, some-suc (get_or s (gate_place x) 0) n, a, b, e)
+gate_some s x g h n a b e = rw (lt-ltb x 256 h, some-suc (get_or s (gate_place x) 0) n, a, b, e)
 
 -- a function's entry
 pub function_at : (s : List ℕ) (x : ℕ) → x < 256 → functions_of s x ≡ function_by s (function_place x) (get_or s (function_place x) 0)

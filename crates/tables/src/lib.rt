@@ -5,7 +5,6 @@
 
 ghost use Rattle.std.specs.Prelude.{◌≡◌, ◌+◌, ◌-◌, ◌*◌, ◌≤◌, ◌<◌, [], length, get_or, set};
 ghost use Rattle.std.proofs.lemmas.List.Edits.{sets};
-ghost use Rattle.types.specs.Types.{number_of};
 ghost use Rattle.tree.specs.Fits.{NumberFits, SpanFits, OptionFits};
 ghost use Rattle.sema.specs.Messages.{Qubit};
 ghost use Rattle.sema.specs.Symbols.{get, get_current};
@@ -49,7 +48,7 @@ fn store_span(s: &mut [u8], at: usize, sp: Span)
     s[at + 4..at + 8].copy_from_slice(&sp.end.to_be_bytes());
 }
 
-// The type with a number. Total: a TryFrom would add an error that no stored byte gives.
+// The type with a number. Total: a TryFrom would add an error that no stored byte gives. A function and no `From`: the type is of ast.
 pub fn type_of(n: u8) -> ClassicalType
     ensures { result ≡ type_of n }
 {
@@ -62,14 +61,8 @@ pub fn type_of(n: u8) -> ClassicalType
     }
 }
 
-fn type_number(ty: ClassicalType) -> u8
-    ensures { (result ≡ number_of ty) × (result < 5) }
-{
-    // A type's number is below 5: TryFrom would add an error that no type gives.
-    types::number(ty) as u8
-}
-
 // The kind with a code. No code above 14 is ever stored, so a TryFrom would add an error that no stored byte gives.
+#[tactic(auto, using(crate::proofs::Codes::kind_classical, crate::proofs::Codes::kind_const))]
 fn kind_of(code: u8) -> SymbolKind
     requires { 0 < code }
     ensures { kind_of result ≡ get_or kinds (code - 1) Qubit }
@@ -84,14 +77,15 @@ fn kind_of(code: u8) -> SymbolKind
     }
 }
 
+// A function and no `From`: both types are of other crates.
 fn kind_code(kind: SymbolKind) -> u8
     ensures { result ≡ code_of (kind_of kind) }
 {
     match kind {
         SymbolKind::Qubit => 1,
         SymbolKind::Bit => 2,
-        SymbolKind::Classical(ty) => 3 + type_number(ty),
-        SymbolKind::Const(ty) => 8 + type_number(ty),
+        SymbolKind::Classical(ty) => 3 + types::number(ty),
+        SymbolKind::Const(ty) => 8 + types::number(ty),
         SymbolKind::GateParam => 13,
         SymbolKind::GateQubit => 14,
     }
@@ -135,6 +129,7 @@ fn symbol_at(s: &[u8], level: usize, x: usize) -> Option<Symbol>
     })
 }
 
+#[tactic(auto, using(crate::proofs::Stores::symbol_stored))]
 fn store_symbol(s: &mut [u8], level: usize, x: usize, sym: Symbol)
     requires { (65536 ≤ length s.old) × (level < 9) × (x < 256) }
     ensures { (s.new ≡ sets (set s.old (code_place level x) (code_of (kind_of sym.kind))) (symbol_place level x) (symbol_bytes (symbol_of sym))) × SymbolFits (symbol_of sym) }
@@ -206,31 +201,30 @@ pub fn gate(scratch: &[u8], x: usize) -> Option<GateSig>
         return None;
     }
     Some(GateSig {
-        param_count: usize::from(scratch[at + 1]),
-        qubit_count: usize::from(scratch[at + 2]),
+        param_count: scratch[at + 1],
+        qubit_count: scratch[at + 2],
         decl_span: span_at(scratch, at + 3),
     })
 }
 
 fn store_gate(s: &mut [u8], at: usize, sig: GateSig)
-    requires { (at + 11 ≤ length s.old) × (sig.param_count < 256) × (sig.qubit_count < 256) }
+    requires { at + 11 ≤ length s.old }
     ensures { (s.new ≡ sets s.old at (gate_bytes (gate_of sig))) × SpanFits sig.decl_span }
 {
     s[at] = 1;
-    // The counts are those of a file, below 256: TryFrom would add an error that no count gives.
-    s[at + 1] = sig.param_count as u8;
-    s[at + 2] = sig.qubit_count as u8;
+    s[at + 1] = sig.param_count;
+    s[at + 2] = sig.qubit_count;
     store_span(s, at + 3, sig.decl_span);
 }
 
-// The counts are those of a Vec.
 pub fn define_gate(scratch: &mut [u8], x: usize, sig: GateSig)
-    requires { (65536 ≤ length scratch.old) × (x < 256) × (sig.param_count < 256) × (sig.qubit_count < 256) }
+    requires { (65536 ≤ length scratch.old) × (x < 256) }
     ensures { GateDefined scratch.old scratch.new x (gate_of sig) }
 {
     store_gate(scratch, GATES + x * GATE, sig);
 }
 
+#[tactic(auto, using(crate::proofs::Views::function_none, crate::proofs::Views::function_some))]
 pub fn function(scratch: &[u8], x: usize) -> Option<FunctionSig>
     requires { (65536 ≤ length scratch.now) × (x < 256) }
     ensures { result ≡ brief_of (functions_of scratch.now x) }
@@ -240,7 +234,7 @@ pub fn function(scratch: &[u8], x: usize) -> Option<FunctionSig>
         return None;
     }
     Some(FunctionSig {
-        param_count: usize::from(scratch[at + 2]),
+        param_count: scratch[at + 2],
         return_type: type_of(scratch[at + 1]),
         decl_span: span_at(scratch, at + 3),
     })
@@ -254,7 +248,7 @@ pub fn param_type(scratch: &[u8], x: usize, i: usize) -> ClassicalType
     type_of(scratch[FUNCTIONS + x * FUNCTION + 11 + i])
 }
 
-// Copies the type bytes of so many parameters from the tree.
+// Copies the type bytes of so many parameters from the tree. By number: it is every third byte.
 fn store_types(s: &mut [u8], to: usize, tree: &[u8], at: usize, count: usize)
     requires { (to + count ≤ length s.old) × (at + 3 * count ≤ length tree.now) }
     ensures { s.new ≡ sets s.old to (type_bytes tree.now at count) }
@@ -264,34 +258,26 @@ fn store_types(s: &mut [u8], to: usize, tree: &[u8], at: usize, count: usize)
     }
 }
 
-fn store_function(s: &mut [u8], at: usize, ty: ClassicalType, sp: Span, count: usize)
-    requires { (at + 11 ≤ length s.old) × (count < 256) }
-    ensures { (s.new ≡ sets s.old at (function_bytes ty sp count [])) × SpanFits sp }
+#[tactic(auto, using(crate::proofs::Stores::function_stored))]
+fn store_function(s: &mut [u8], at: usize, sig: FunctionSig)
+    requires { at + 11 ≤ length s.old }
+    ensures { (s.new ≡ sets s.old at (function_bytes sig.return_type sig.decl_span sig.param_count [])) × SpanFits sig.decl_span }
 {
     s[at] = 1;
-    s[at + 1] = type_number(ty);
-    // The count is that of a file, below 256: TryFrom would add an error that no count gives.
-    s[at + 2] = count as u8;
-    store_span(s, at + 3, sp);
+    s[at + 1] = types::number(sig.return_type);
+    s[at + 2] = sig.param_count;
+    store_span(s, at + 3, sig.decl_span);
 }
 
 // Its parameters stand in the tree from `at` on: a type byte and a text number of two bytes each. The walk has read them, and defines
 // functions by this alone, so none has more than 16.
-pub fn define_function(
-    scratch: &mut [u8],
-    tree: &[u8],
-    x: usize,
-    at: usize,
-    count: usize,
-    return_type: ClassicalType,
-    decl_span: Span,
-)
-    requires { (65536 ≤ length scratch.old) × (x < 256) × (count ≤ 16) × (at + 3 * count ≤ length tree.now) × FewParams (functions_of scratch.old) }
-    ensures { FunctionDefined scratch.old scratch.new x (function_in tree.now at count return_type decl_span) }
+pub fn define_function(scratch: &mut [u8], tree: &[u8], x: usize, at: usize, sig: FunctionSig)
+    requires { (65536 ≤ length scratch.old) × (x < 256) × (sig.param_count ≤ 16) × (at + 3 * sig.param_count ≤ length tree.now) × FewParams (functions_of scratch.old) }
+    ensures { FunctionDefined scratch.old scratch.new x (function_in tree.now at sig.param_count sig.return_type sig.decl_span) }
 {
     let entry = FUNCTIONS + x * FUNCTION;
-    store_function(scratch, entry, return_type, decl_span, count);
-    store_types(scratch, entry + 11, tree, at, count);
+    store_function(scratch, entry, sig);
+    store_types(scratch, entry + 11, tree, at, usize::from(sig.param_count));
 }
 
 // Before a walk: one empty scope, no gates, no functions, whatever the scratch held.

@@ -15,18 +15,19 @@ const ASSIGNABLE: [[bool; 5]; 5] = [
     [false, false, false, false, true],
 ];
 
-// The number of a type, as in a tree file. By `as`, since a match would say the order of the cases once more.
-pub fn number(ty: ClassicalType) -> usize
+// The number of a type, as in a tree file. By `as`, since a match would say the order of the cases once more. A function and no `From`:
+// the type is of ast.
+pub fn number(ty: ClassicalType) -> u8
     ensures { (result ≡ number_of ty) × (result < 5) }
 {
-    ty as usize
+    ty as u8
 }
 
 pub fn assignable(expected: ClassicalType, actual: ClassicalType) -> bool
     ensures { result ≡ assignable_to expected actual }
 {
-    let row = number(expected);
-    let column = number(actual);
+    let row = usize::from(number(expected));
+    let column = usize::from(number(actual));
     ASSIGNABLE[row][column]
 }
 

@@ -32,6 +32,7 @@ use Rattle.accepted.specs.Exprs as of
 use Rattle.tables.specs.Tables.{params_of}
 use Rattle.promises.specs.Emitted.{Emitted, emitted_then, emitted_as}
 use Rattle.promises.specs.Typings.{TypingOf}
+use Rattle.std.specs.Prelude.{Option as Maybe}
 use Rattle.typing.specs.declared.Callee.{Callee}
 use Rattle.typing.specs.Checks.{callee_type, callee_says, CalleeOf, unmet, argument_at}
 use Rattle.typing.proofs.Exprs.{typing_is, found_of}
@@ -122,14 +123,14 @@ module _ {t : List Text} {ss : Symbols} {fs : Table FunctionSig} {left : ℕ} {t
 
 -- a call
 module _ (t : List Text) (ss : Symbols) (fs : Table FunctionSig) (left : ℕ) (s : List ℕ) (at : ℕ) (h : IsOk (expr t left s at)) (b : get_or s at 0 ≡ 5) where
-  pub call_typing : {x k n : ℕ} {sp : Span} {d : Sink} {o : List ℕ} {f : Callee} {o₁ : List ℕ} {r : Sink} {o₂ : List ℕ} → x ≡ number_at 2 s (at + 1) → k ≡ next_of (exprs (expr t (left - 1)) s (at + 3)) → sp ≡ span_at s k → n ≡ get_or s (at + 3) 0 → CalleeOf t (fs x) x n sp d o f o₁ → Emitted t (given [] (λ es. check_arguments ss fs es x 0 (params_of (fs x))) (exprs (expr t (left - 1)) s (at + 3))) f.sink o₁ r o₂ → TypingOf t ss fs (expr t left s at) d o (record { typed = f.typed; next = k + 8; sink = r }) o₂
-  call_typing {x = x} {k = k} {n = n} {sp = sp} e end g c p q =
+  pub call_typing : {x k n : ℕ} {sp : Span} {d : Sink} {o : List ℕ} {f : Callee} {u : Maybe ClassicalType} {o₁ : List ℕ} {r : Sink} {o₂ : List ℕ} → x ≡ number_at 2 s (at + 1) → k ≡ next_of (exprs (expr t (left - 1)) s (at + 3)) → sp ≡ span_at s k → n ≡ get_or s (at + 3) 0 → CalleeOf t (fs x) x n sp d o f o₁ → Emitted t (given [] (λ es. check_arguments ss fs es x 0 (params_of (fs x))) (exprs (expr t (left - 1)) s (at + 3))) f.sink o₁ r o₂ → typed_of u ≡ callee_type (fs x) → TypingOf t ss fs (expr t left s at) d o (record { typed = u; next = k + 8; sink = r }) o₂
+  call_typing {x = x} {k = k} {n = n} {sp = sp} e end g c p q ty =
       let a = of.call-args t left s at h b in
       let args : Exprs = value_or no_expr (exprs (expr t (left - 1)) s (at + 3)) in
       let many : n ≡ expr_count args = c ∙ sym (exprs-size (expr t (left - 1)) s (at + 3) a) in
       typing_is (of.call_is t left s at h b k end)
       (rw (← e, ← g, call_by ss fs x args sp) (record {
         next = refl;
-        type = p.type;
+        type = ty;
         emitted = emitted_then (rw many at p.emitted) (emitted_as q (given_ok no_expr [] (λ es. check_arguments ss fs es x 0 (params_of (fs x))) _ a));
       }))

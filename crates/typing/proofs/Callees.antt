@@ -1,6 +1,6 @@
 -- The function of a call, and its arguments, for each way out of the code. Assumes nothing.
 use Prim.Native.Nat.{ℕ, ◌+◌, ◌≤◌, ◌<◌}
-use mathlib.Core.Path.{◌≡◌, refl}
+use mathlib.Core.Path.{◌≡◌, sym, ap, ◌∙◌}
 use mathlib.Core.List.{List, [], ◌∷◌}
 use mathlib.Core.Option.{Option, none, some}
 use native.Mathlib.Omega.{arith}
@@ -13,19 +13,18 @@ use Rattle.span.specs.declared.Span.{Span}
 use Rattle.ast.specs.Tree.{Text}
 use Rattle.ast.specs.declared.ClassicalType.{ClassicalType}
 use Rattle.context.specs.declared.FunctionSig.{FunctionSig as FunctionValue}
-use Rattle.std.specs.Prelude.{Option as Maybe, Some, None}
+use Rattle.std.specs.Prelude.{Option as Maybe, Some, None, MatchOption, IsSomeAnd}
 use Rattle.sema.specs.Messages
 use Rattle.sema.specs.Messages.{Diagnostic, error_with_note}
 use Rattle.sema.specs.Symbols.{FunctionSig}
 use Rattle.sema.specs.Operands.{unless}
 use Rattle.context.specs.declared.Sink.{Sink}
-use Rattle.context.specs.declared.FunctionSig.{FunctionSig as SigValue}
 use Rattle.context.specs.Values.{typed_of}
 use Rattle.lines.specs.declared.Message.{Message}
 use Rattle.lines.specs.declared.Note.{Note}
 use Rattle.lines.specs.declared.Diagnostic.{Diagnostic as DiagnosticValue}
 use Rattle.lines.specs.Values.{diagnostic_of, error_of, error_with_note_of, Reported}
-use Rattle.tables.specs.Tables.{brief_of}
+use Rattle.tables.specs.Tables.{brief_of, params_of}
 use Rattle.promises.specs.Emitted.{Emitted, emitted-none, unless_holds, unless_fails}
 use Rattle.typing.specs.declared.Wanted.{Wanted}
 use Rattle.typing.specs.Checks.{callee_type, callee_says, CalleeOf, unmet, argument_at}
@@ -33,6 +32,21 @@ use Rattle.typing.specs.Checks.{callee_type, callee_says, CalleeOf, unmet, argum
 -- another number of arguments than of parameters
 abbrev wrong : ℕ → ℕ → ℕ → Span → Span → Diagnostic
 wrong x n params sp at = error_with_note (Messages.function_arguments x params n) sp Messages.function_defined at
+
+-- what a call takes from the function that was found: its type, and the number of its parameters
+some_typed : (u : Maybe ClassicalType) {ty : ClassicalType} {P : ClassicalType → Type 0} → ((x : ClassicalType) → P x → x ≡ ty) → IsSomeAnd u P → typed_of u ≡ some ty
+some_typed None q h = absurd h
+some_typed (Some x) q h = ap some (q x h)
+
+module _ {g : Maybe FunctionValue} where
+  pub callee_typed : (f : Option FunctionSig) (u : Maybe ClassicalType) {P : FunctionValue → ClassicalType → Type 0} → g ≡ brief_of f → MatchOption g (u ≡ None) (λ sig. IsSomeAnd u (P sig)) → ((sig : FunctionValue) (ty : ClassicalType) → P sig ty → ty ≡ sig.return_type) → typed_of u ≡ callee_type f
+  unfolding callee_type
+  callee_typed none u e h q = let k : u ≡ None = rw e at h in rw k
+  callee_typed (some f) u e h q = some_typed u (q _) (rw e at h)
+
+  pub callee_params : (f : Option FunctionSig) {n : ℕ} {P : FunctionValue → Type 0} → g ≡ brief_of f → MatchOption g (n ≡ 0) P → ((sig : FunctionValue) → P sig → n ≡ sig.param_count) → n ≡ length (params_of f)
+  callee_params none e h q = rw e at h
+  callee_params (some f) e h q = q _ (rw e at h)
 
 module _ {t : List Text} {s : Sink} {o : List ℕ} where
   -- so many arguments
@@ -45,17 +59,17 @@ module _ {t : List Text} {s : Sink} {o : List ℕ} where
 
   -- the function by what was found
   module _ (x n : ℕ) (sp : Span) {g : Maybe FunctionValue} {r : Sink} {o' : List ℕ} where
-    pub callee-missing : (f : Option FunctionSig) → g ≡ brief_of f → g ≡ None → Emitted t (diagnostic_of (error_of (Message.FunctionNotDefined x) sp) ∷ []) s o r o' → CalleeOf t f x n sp s o (record { typed = None; params = 0; sink = r }) o'
-    unfolding callee_type callee_says
-    callee-missing none e h p = record { type = refl; params = refl; emitted = p }
-    callee-missing (some f) e h p = let y : ◌≡◌ {A = ℕ} 0 1 = cc in absurd (omega arith)
+    pub callee_missing : (f : Option FunctionSig) → g ≡ brief_of f → g ≡ None → Emitted t (diagnostic_of (error_of (Message.FunctionNotDefined x) sp) ∷ []) s o r o' → CalleeOf t f x n sp s o (record { sig = g; sink = r }) o'
+    unfolding callee_says
+    callee_missing none e h p = record { sig = e; emitted = p }
+    callee_missing (some f) e h p = let y : ◌≡◌ {A = ℕ} 0 1 = cc in absurd (omega arith)
 
-    pub callee-there : (f : Option FunctionSig) {sig : SigValue} → g ≡ brief_of f → g ≡ Some sig → Emitted t (unless (eqb n sig.param_count) (error_with_note (Messages.function_arguments x sig.param_count n) sp Messages.function_defined sig.decl_span)) s o r o' → CalleeOf t f x n sp s o (record { typed = Some sig.return_type; params = sig.param_count; sink = r }) o'
-    unfolding callee_type callee_says
-    callee-there none e h p = let y : ◌≡◌ {A = ℕ} 0 1 = cc in absurd (omega arith)
-    callee-there (some f) {sig = sig} e h p =
+    pub callee_there : (f : Option FunctionSig) {sig : FunctionValue} → g ≡ brief_of f → g ≡ Some sig → Emitted t (unless (eqb n sig.param_count) (error_with_note (Messages.function_arguments x sig.param_count n) sp Messages.function_defined sig.decl_span)) s o r o' → CalleeOf t f x n sp s o (record { sig = Some sig; sink = r }) o'
+    unfolding callee_says
+    callee_there none e h p = let y : ◌≡◌ {A = ℕ} 0 1 = cc in absurd (omega arith)
+    callee_there (some f) {sig = sig} e h p =
         let same : sig ≡ record { param_count = length f.params; return_type = f.return_type; decl_span = f.decl_span } = cc in
-        rw same (record { type = refl; params = refl; emitted = rw same at p })
+        record { sig = sym h ∙ e; emitted = rw same at p }
 
   -- an argument against its parameter
   module _ (x i : ℕ) (sp : Span) (ps : List ClassicalType) (u : Maybe ClassicalType) where

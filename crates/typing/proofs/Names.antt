@@ -4,6 +4,7 @@ use mathlib.Core.Path.{◌≡◌, refl, sym, ap, ◌∙◌}
 use mathlib.Core.Bool.{Bool, true, false}
 use mathlib.Core.List.{List}
 use mathlib.Core.Option.{Option, none, some}
+use mathlib.Core.Logic.{◌⊎◌, ⊎_elim}
 use native.Mathlib.Omega.{arith}
 use borrow.Author.Tests.{lt-ltb, le-ltb}
 use Rattle.span.specs.declared.Span.{Span}
@@ -29,13 +30,9 @@ name_below e l = rw e l
 
 -- a name by its kind
 module _ {t : List Text} (x : ℕ) (sp : Span) {end : ℕ} {s : Sink} {o : List ℕ} {r : TypingValue} {k : SymbolKind} where
-  pub ident_classical : {ty : ClassicalType} → k ≡ SymbolKind.Classical ty → r ≡ has_type ty end s → Found t (ident_type x sp (kind_of k)) end s o r o
+  pub ident_typed : {ty : ClassicalType} → (k ≡ SymbolKind.Classical ty) ⊎ (k ≡ SymbolKind.Const ty) → r ≡ has_type ty end s → Found t (ident_type x sp (kind_of k)) end s o r o
   unfolding ident_type
-  ident_classical e h = rw e (found-typed h)
-
-  pub ident-const : {ty : ClassicalType} → k ≡ SymbolKind.Const ty → r ≡ has_type ty end s → Found t (ident_type x sp (kind_of k)) end s o r o
-  unfolding ident_type
-  ident-const e h = rw e (found-typed h)
+  ident_typed {ty} d h = ⊎_elim (λ (e : k ≡ SymbolKind.Classical ty). rw e (found-typed h)) (λ (e : k ≡ SymbolKind.Const ty). rw e (found-typed h)) d
 
   pub ident_bit : k ≡ SymbolKind.Bit → r ≡ has_type ClassicalType.Int end s → Found t (ident_type x sp (kind_of k)) end s o r o
   unfolding ident_type
@@ -45,14 +42,9 @@ module _ {t : List Text} (x : ℕ) (sp : Span) {end : ℕ} {s : Sink} {o : List 
   unfolding ident_type
   ident-param e h = rw e (found-typed h)
 
-  module _ {o' : List ℕ} (p : Found t (refused (Message.NotClassical x) sp) end s o r o') where
-    pub ident-qubit : k ≡ SymbolKind.Qubit → Found t (ident_type x sp (kind_of k)) end s o r o'
-    unfolding ident_type
-    ident-qubit e = rw e p
-
-    pub ident-gate-qubit : k ≡ SymbolKind.GateQubit → Found t (ident_type x sp (kind_of k)) end s o r o'
-    unfolding ident_type
-    ident-gate-qubit e = rw e p
+  pub ident_wire : {o' : List ℕ} → (k ≡ SymbolKind.Qubit) ⊎ (k ≡ SymbolKind.GateQubit) → Found t (refused (Message.NotClassical x) sp) end s o r o' → Found t (ident_type x sp (kind_of k)) end s o r o'
+  unfolding ident_type
+  ident_wire d p = ⊎_elim (λ (e : k ≡ SymbolKind.Qubit). rw e p) (λ (e : k ≡ SymbolKind.GateQubit). rw e p) d
 
 -- a name with an index by its symbol
 module _ (x i : ℕ) (sp : Span) (v : Symbol) where

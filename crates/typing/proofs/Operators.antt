@@ -14,7 +14,6 @@ use Rattle.context.specs.declared.Sink.{Sink}
 use Rattle.context.specs.declared.Typing.{Typing as TypingValue}
 use Rattle.context.specs.Values.{typed_of}
 use Rattle.lines.specs.declared.Message.{Message}
-use Rattle.lines.specs.Values.{Below, name_in}
 use Rattle.typing.specs.declared.Operator.{Operator}
 use Rattle.typing.specs.Checks.{Found, has_type, comparable, operation_type, pair_type, pair_message}
 use Rattle.typing.proofs.Finds.{refused, found-typed, found_nothing}
@@ -53,7 +52,7 @@ module _ (sp : Span) where
 
 -- nothing is said where an operand has no type
 module _ {t : List Text} {end : ℕ} {s : Sink} {o : List ℕ} (sp : Span) where
-  pub neg-untyped : {u : Maybe ClassicalType} → u ≡ None → Found t (neg_type sp (typed_of u)) end s o (untold end s) o
+  pub neg-untyped : {u : Maybe ClassicalType} → u ≡ None → Found t (neg_type sp (typed_of u)) end s o (record { typed = u; next = end; sink = s }) o
   unfolding neg_type
   neg-untyped e = rw e found_nothing
 
@@ -65,12 +64,12 @@ module _ {t : List Text} {end : ℕ} {s : Sink} {o : List ℕ} (sp : Span) where
     operation-right {a = a} e g = rw (e, g, without-right sp c a) found_nothing
 
 -- both operands have types, and these go together
-module _ {t : List Text} {end : ℕ} {s : Sink} {o : List ℕ} {r : TypingValue} (sp : Span) where
-  pub neg-typed : {u : Maybe ClassicalType} {ty : ClassicalType} {b : Bool} → u ≡ Some ty → b ≡ numeric ty → b ≡ true → r ≡ has_type ty end s → Found t (neg_type sp (typed_of u)) end s o r o
+module _ {t : List Text} {end : ℕ} {s : Sink} {o : List ℕ} (sp : Span) where
+  pub neg-typed : {u : Maybe ClassicalType} {ty : ClassicalType} {b : Bool} → u ≡ Some ty → b ≡ numeric ty → b ≡ true → Found t (neg_type sp (typed_of u)) end s o (record { typed = u; next = end; sink = s }) o
   unfolding neg_type
-  neg-typed e n h p = rw (e, ← n, h) (found-typed p)
+  neg-typed e n h = rw (e, ← n, h) (found-typed refl)
 
-  pub operation-typed : (c : Operator) {u v q : Maybe ClassicalType} {a b ty : ClassicalType} → u ≡ Some a → v ≡ Some b → q ≡ pair_type c a b → q ≡ Some ty → r ≡ has_type ty end s → Found t (operation_type c sp (typed_of u) (typed_of v)) end s o r o
+  pub operation-typed : (c : Operator) {u v q : Maybe ClassicalType} {a b ty : ClassicalType} {r : TypingValue} → u ≡ Some a → v ≡ Some b → q ≡ pair_type c a b → q ≡ Some ty → r ≡ has_type ty end s → Found t (operation_type c sp (typed_of u) (typed_of v)) end s o r o
   unfolding outcome
   operation-typed c {a = a} {b = b} e g h k p = rw (e, g, with_both sp c a b, ← h, k) (found-typed p)
 
@@ -83,11 +82,3 @@ module _ {t : List Text} {end : ℕ} {s : Sink} {o : List ℕ} {r : TypingValue}
   pub operation-refused : (c : Operator) {u v q : Maybe ClassicalType} {a b : ClassicalType} {m : Message} → u ≡ Some a → v ≡ Some b → q ≡ pair_type c a b → q ≡ None → m ≡ pair_message c → Found t (refused m at) end s o r o' → Found t (operation_type c sp (typed_of u) (typed_of v)) end s o r o'
   unfolding outcome
   operation-refused c {a = a} {b = b} e g h k n p = rw (e, g, with_both sp c a b, ← h, k, ← n, ← here) p
-
--- no name stands in what is said
-pub pair_named : (c : Operator) (n : ℕ) {m : Message} → m ≡ pair_message c → Below n (name_in m)
-pair_named c n e = rw e (go c)
-  where
-    go : (q : Operator) → Below n (name_in (pair_message q))
-    go Operator.Arithmetic = tt
-    go Operator.Comparison = tt

@@ -16,7 +16,7 @@ use Rattle.context.specs.declared.Typing.{Typing as TypingValue}
 use Rattle.context.specs.Values.{typed_of}
 use Rattle.lines.specs.declared.Message.{Message}
 use Rattle.lines.specs.Values.{message_of, place_of, name_in, Below}
-use Rattle.tables.specs.Tables.{params_of}
+use Rattle.tables.specs.Tables.{brief_of}
 use Rattle.promises.specs.Emitted.{Emitted}
 use Rattle.typing.specs.declared.Callee.{Callee}
 use Rattle.typing.specs.declared.Operator.{Operator}
@@ -88,8 +88,7 @@ callee_says (some sig) x n sp =
     (error_with_note (Messages.function_arguments x (length sig.params) n) sp Messages.function_defined sig.decl_span)
 
 pub record CalleeOf (t : List Text) (f : Option FunctionSig) (x : TextNumber) (n : ℕ) (sp : Span) (s : Sink) (o : List ℕ) (r : Callee) (o' : List ℕ) : Type 0 where
-  pub type : typed_of r.typed ≡ callee_type f
-  pub params : r.params ≡ length (params_of f)
+  pub sig : r.sig ≡ brief_of f
   pub emitted : Emitted t (callee_says f x n sp) s o r.sink o'
 
 -- an argument with that span against the parameter of its place, where there is one

@@ -20,7 +20,7 @@ fn count_arguments(
     sema: SemaContext<'_>,
     out: &mut [u8],
     x: usize,
-    n: usize,
+    n: u8,
     sig: FunctionSig,
     span: Span,
     sink: Sink,
@@ -28,21 +28,18 @@ fn count_arguments(
     requires { x < length (texts sema) }
     ensures { Emitted (texts sema.entry) (unless (eqb n sig.param_count) (error_with_note (function_arguments x sig.param_count n) span function_defined sig.decl_span)) sink out.old result out.new }
 {
-    let params = sig.param_count;
-    if n == params {
+    if n == sig.param_count {
         return sink;
     }
-    let decl_span = sig.decl_span;
     lines::report(
         out,
         sink,
         sema.texts,
-        // std has no From<usize> for u64.
         error_with_note(
-            Message::FunctionArguments(x, params as u64, n as u64),
+            Message::FunctionArguments(x, u64::from(sig.param_count), u64::from(n)),
             span,
             Note::FunctionDefined,
-            decl_span,
+            sig.decl_span,
         ),
     )
 }
@@ -52,33 +49,24 @@ pub fn check_callee(
     sema: SemaContext<'_>,
     out: &mut [u8],
     x: usize,
-    n: usize,
+    n: u8,
     span: Span,
     sink: Sink,
 ) -> Callee
     requires { x < length (texts sema) }
     ensures { CalleeOf (texts sema.entry) (functions sema.entry x) x n span sink out.old result out.new }
 {
-    let Some(sig) = tables::function(sema.scratch, x) else {
-        let said = lines::report(
+    let sig = tables::function(sema.scratch, x);
+    let sink = match sig {
+        Some(sig) => count_arguments(sema, out, x, n, sig, span, sink),
+        None => lines::report(
             out,
             sink,
             sema.texts,
             error(Message::FunctionNotDefined(x), span),
-        );
-        return Callee {
-            typed: None,
-            params: 0,
-            sink: said,
-        };
+        ),
     };
-    let said = count_arguments(sema, out, x, n, sig, span, sink);
-    let ty = sig.return_type;
-    Callee {
-        typed: Some(ty),
-        params: sig.param_count,
-        sink: said,
-    }
+    Callee { sig, sink }
 }
 
 // An argument against the parameter of its place, where the function has one.
@@ -86,18 +74,17 @@ pub fn check_argument(
     sema: SemaContext<'_>,
     out: &mut [u8],
     x: usize,
-    params: usize,
-    i: usize,
+    params: u8,
+    i: u8,
     t: Typing,
 ) -> Sink
     requires { (x < length (texts sema)) × (params ≡ length (params_of (functions sema x))) × (8 ≤ t.next) × (t.next ≤ length sema.texts.tree.now) }
     ensures { Emitted (texts sema.entry) (argument_at x i (span_at sema.entry.texts.tree.now (t.next - 8)) (drop i (params_of (functions sema.entry x))) (typed_of t.typed)) t.sink out.old result out.new }
 {
-    let sink = t.sink;
     if params <= i {
-        return sink;
+        return t.sink;
     }
-    let expected = tables::param_type(sema.scratch, x, i);
-    // std has no From<usize> for u64.
-    check_wanted(sema, out, Wanted::Argument(expected, (i + 1) as u64, x), t)
+    let expected = tables::param_type(sema.scratch, x, usize::from(i));
+    let wanted = Wanted::Argument(expected, u64::from(i) + 1, x);
+    check_wanted(sema, out, wanted, t)
 }

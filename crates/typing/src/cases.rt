@@ -37,11 +37,11 @@ fn refuse(
     requires { Below (length (texts sema)) (name_in message) }
     ensures { Found (texts sema.entry) (untyped (diagnostic_of (error_of message span) ∷ [])) next sink out.old result out.new }
 {
-    let after = lines::report(out, sink, sema.texts, error(message, span));
+    let sink = lines::report(out, sink, sema.texts, error(message, span));
     Typing {
         typed: None,
         next,
-        sink: after,
+        sink,
     }
 }
 
@@ -59,12 +59,12 @@ fn ident_type(
     ensures { Found (texts sema.entry) (ident_type x span (kind_of kind)) next sink out.old result out.new }
 {
     match kind {
-        SymbolKind::Classical(ty) => has_type(ty, next, sink),
-        SymbolKind::Const(ty) => has_type(ty, next, sink),
+        SymbolKind::Classical(ty) | SymbolKind::Const(ty) => has_type(ty, next, sink),
         SymbolKind::Bit => has_type(ClassicalType::Int, next, sink),
         SymbolKind::GateParam => has_type(ClassicalType::Float, next, sink),
-        SymbolKind::Qubit => refuse(sema, out, sink, Message::NotClassical(x), span, next),
-        SymbolKind::GateQubit => refuse(sema, out, sink, Message::NotClassical(x), span, next),
+        SymbolKind::Qubit | SymbolKind::GateQubit => {
+            refuse(sema, out, sink, Message::NotClassical(x), span, next)
+        }
     }
 }
 
@@ -78,8 +78,7 @@ pub fn check_ident(sema: SemaContext<'_>, out: &mut [u8], at: usize, sink: Sink)
     let Some(symbol) = tables::get(sema.scratch, sema.depth, x) else {
         return refuse(sema, out, sink, Message::NotDeclared(x), span, next);
     };
-    let kind = symbol.kind;
-    ident_type(sema, out, x, span, kind, next, sink)
+    ident_type(sema, out, x, span, symbol.kind, next, sink)
 }
 
 // A name with an index, by its symbol.
@@ -96,12 +95,10 @@ fn index_type(
     requires { x < length (texts sema) }
     ensures { Found (texts sema.entry) (index_type x i span (symbol_of symbol) (kind_of symbol.kind)) next sink out.old result out.new }
 {
-    let kind = symbol.kind;
-    if !context::is_bit(kind) {
+    if !context::is_bit(symbol.kind) {
         return refuse(sema, out, sink, Message::NotIndexable(x), span, next);
     }
-    let size = symbol.size;
-    let Some(n) = size else {
+    let Some(n) = symbol.size else {
         return refuse(sema, out, sink, Message::CannotIndexBit(x), span, next);
     };
     if i < n {
@@ -137,20 +134,14 @@ pub fn negation(sema: SemaContext<'_>, out: &mut [u8], t: Typing) -> Typing
     ensures { Found (texts sema.entry) (neg_type (span_at sema.entry.texts.tree.now t.next) (typed_of t.typed)) (t.next + 8) t.sink out.old result out.new }
 {
     let next = t.next + 8;
-    let sink = t.sink;
-    let found = t.typed;
-    let Some(ty) = found else {
-        return Typing {
-            typed: None,
-            next,
-            sink,
-        };
+    let Some(ty) = t.typed else {
+        return Typing { next, ..t };
     };
     if types::is_numeric(ty) {
-        return has_type(ty, next, sink);
+        return Typing { next, ..t };
     }
     let span = span_at(sema.texts.tree, t.next);
-    refuse(sema, out, sink, Message::NegationNumeric, span, next)
+    refuse(sema, out, t.sink, Message::NegationNumeric, span, next)
 }
 
 fn comparable(a: ClassicalType, b: ClassicalType) -> bool
@@ -201,27 +192,16 @@ pub fn operation(
     ensures { Found (texts sema.entry) (operation_type operator (span_at sema.entry.texts.tree.now t.next) (typed_of l) (typed_of t.typed)) (t.next + 8) t.sink out.old result out.new }
 {
     let next = t.next + 8;
-    let sink = t.sink;
-    let Some(a) = l else {
+    let (Some(a), Some(b)) = (l, t.typed) else {
         return Typing {
             typed: None,
             next,
-            sink,
+            ..t
         };
     };
-    let found = t.typed;
-    let Some(b) = found else {
-        return Typing {
-            typed: None,
-            next,
-            sink,
-        };
-    };
-    let result = pair_type(operator, a, b);
-    let Some(ty) = result else {
-        let message = pair_message(operator);
+    let Some(ty) = pair_type(operator, a, b) else {
         let span = span_at(sema.texts.tree, t.next);
-        return refuse(sema, out, sink, message, span, next);
+        return refuse(sema, out, t.sink, pair_message(operator), span, next);
     };
-    has_type(ty, next, sink)
+    has_type(ty, next, t.sink)
 }

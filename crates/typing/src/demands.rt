@@ -16,9 +16,10 @@ fn meets(wanted: Wanted, actual: ClassicalType) -> bool
     ensures { result ≡ meets wanted actual }
 {
     match wanted {
-        Wanted::Assignable(expected, _) => types::assignable(expected, actual),
+        Wanted::Assignable(expected, _) | Wanted::Argument(expected, _, _) => {
+            types::assignable(expected, actual)
+        }
         Wanted::Numeric(_) => types::is_numeric(actual),
-        Wanted::Argument(expected, _, _) => types::assignable(expected, actual),
     }
 }
 
@@ -38,18 +39,16 @@ pub fn check_wanted(sema: SemaContext<'_>, out: &mut [u8], wanted: Wanted, t: Ty
     requires { NamedBelow (length (texts sema)) wanted × (8 ≤ t.next) × (t.next ≤ length sema.texts.tree.now) }
     ensures { Emitted (texts sema.entry) (unmet wanted (span_at sema.entry.texts.tree.now (t.next - 8)) (typed_of t.typed)) t.sink out.old result out.new }
 {
-    let sink = t.sink;
-    let found = t.typed;
-    let Some(actual) = found else {
-        return sink;
+    let Some(actual) = t.typed else {
+        return t.sink;
     };
     if meets(wanted, actual) {
-        return sink;
+        return t.sink;
     }
     let span = span_at(sema.texts.tree, t.next - 8);
     lines::report(
         out,
-        sink,
+        t.sink,
         sema.texts,
         error(complaint(wanted, actual), span),
     )

@@ -26,14 +26,13 @@ ghost use Rattle.typing.specs.Vecs.{CheckedTo};
 use accepted::exprs::skip_exprs;
 use accepted::numbers::{span_at, u16_at};
 use ast::ClassicalType;
-use context::{After, SemaContext, Sink, Typing};
+use context::{After, FunctionSig, SemaContext, Sink, Typing};
 use lines::{Message, Place, error};
 
-// The function of a call: the call's type, the number of parameters, and the listing after what is said of the function.
+// The function of a call, and the listing after what is said of it.
 #[derive(Clone, Copy)]
 struct Callee {
-    typed: Option<ClassicalType>,
-    params: usize,
+    sig: Option<FunctionSig>,
     sink: Sink,
 }
 
@@ -60,7 +59,7 @@ fn check_arguments(
     at: usize,
     left: usize,
     x: usize,
-    params: usize,
+    params: u8,
     sink: Sink,
 ) -> Sink
     requires { (x < length (texts sema)) × (params ≡ length (params_of (functions sema x))) × IsOk (exprs (expr (texts sema) left) sema.texts.tree.now at) }
@@ -68,7 +67,7 @@ fn check_arguments(
 {
     let mut k = at + 1;
     let mut s = sink;
-    for i in 0..usize::from(sema.texts.tree[at]) {
+    for i in 0..sema.texts.tree[at] {
         let t = check_expr(sema, out, k, left, s);
         s = calls::check_argument(sema, out, x, params, i, t);
         k = t.next;
@@ -85,16 +84,12 @@ fn check_call(sema: SemaContext<'_>, out: &mut [u8], at: usize, left: usize, sin
     let end = skip_exprs(sema.texts.tree, at + 3, left - 1);
     let span = span_at(sema.texts.tree, end);
     let next = end + 8;
-    let n = usize::from(sema.texts.tree[at + 3]);
+    let n = sema.texts.tree[at + 3];
     let f = calls::check_callee(sema, out, x, n, span, sink);
-    let said = f.sink;
-    let after = check_arguments(sema, out, at + 3, left - 1, x, f.params, said);
-    let typed = f.typed;
-    Typing {
-        typed,
-        next,
-        sink: after,
-    }
+    let params = f.sig.map_or(0, |sig| sig.param_count);
+    let sink = check_arguments(sema, out, at + 3, left - 1, x, params, f.sink);
+    let typed = f.sig.map(|sig| sig.return_type);
+    Typing { typed, next, sink }
 }
 
 // Validate an expression and return its inferred classical type.
@@ -124,11 +119,9 @@ pub fn check_expr(
         }
         _ => {
             let l = check_expr(sema, out, at + 2, left - 1, sink);
-            let said = l.sink;
-            let r = check_expr(sema, out, l.next, left - 1, said);
-            let lhs = l.typed;
+            let r = check_expr(sema, out, l.next, left - 1, l.sink);
             let operator = cases::operator(sema.texts.tree[at]);
-            cases::operation(sema, out, operator, lhs, r)
+            cases::operation(sema, out, operator, l.typed, r)
         }
     }
 }
@@ -139,12 +132,14 @@ fn require(sema: SemaContext<'_>, out: &mut [u8], at: usize, wanted: Wanted, sin
     ensures { SaidOf (texts sema.entry) (require_says (scopes sema.entry) (functions sema.entry) wanted) (held (texts sema.entry) sema.entry.texts.tree.now at) sink out.old result out.new }
 {
     let t = check_expr(sema, out, at, 32, sink);
-    let next = t.next;
-    let after = demands::check_wanted(sema, out, wanted, t);
-    After { next, sink: after }
+    After {
+        next: t.next,
+        sink: demands::check_wanted(sema, out, wanted, t),
+    }
 }
 
 // An expression that must have a type.
+#[tactic(auto, unfolding(sema::specs::Exprs::require_type, crate::specs::Checks::unmet))]
 pub fn require_type(
     sema: SemaContext<'_>,
     out: &mut [u8],
@@ -160,6 +155,7 @@ pub fn require_type(
 }
 
 // An expression that must be numeric; the message stands at its span.
+#[tactic(auto, unfolding(sema::specs::Exprs::require_numeric, crate::specs::Checks::unmet))]
 pub fn require_numeric(
     sema: SemaContext<'_>,
     out: &mut [u8],
@@ -189,15 +185,13 @@ fn check_control(sema: SemaContext<'_>, out: &mut [u8], at: usize, sink: Sink) -
         Place::ControlArgument,
         sink,
     );
-    let next = a.next;
-    let said = a.sink;
     let e = constants::eval_const_int(sema.texts.tree, at + 1, 32);
     if constants::is_count(e.value) {
-        return After { next, sink: said };
+        return a;
     }
-    let span = span_at(sema.texts.tree, next);
-    let after = lines::report(out, said, sema.texts, error(Message::ControlCount, span));
-    After { next, sink: after }
+    let span = span_at(sema.texts.tree, a.next);
+    let sink = lines::report(out, a.sink, sema.texts, error(Message::ControlCount, span));
+    After { sink, ..a }
 }
 
 fn check_modifier(sema: SemaContext<'_>, out: &mut [u8], at: usize, sink: Sink) -> After
@@ -209,18 +203,16 @@ fn check_modifier(sema: SemaContext<'_>, out: &mut [u8], at: usize, sink: Sink) 
         2 => After { next: at + 9, sink },
         3 => {
             let a = require_numeric(sema, out, at + 1, Message::PowerNumeric, sink);
-            let said = a.sink;
             After {
                 next: a.next + 8,
-                sink: said,
+                ..a
             }
         }
         _ => {
             let a = check_control(sema, out, at + 1, sink);
-            let said = a.sink;
             After {
                 next: a.next + 8,
-                sink: said,
+                ..a
             }
         }
     }

@@ -6,14 +6,6 @@ use lib.Dec.{eqb, ltb}
 use borrow.Author.Tests.{lt-ltb, le-ltb, ltb-true, ltb-false, ne_eqb, eqb-false, not-true}
 use Rattle.walk.specs.Bodies.{is_plain}
 
-pub plain-low : (n : ℕ) → n < 12 → not (eqb n 6) ≡ is_plain n
-unfolding is_plain
-plain-low n h = rw (lt-ltb n 12 h, and-true)
-
-pub plain-high : (n : ℕ) → 12 ≤ n → false ≡ is_plain n
-unfolding is_plain
-plain-high n h = rw (le-ltb n 12 h, and-false)
-
 -- what a plain statement is not
 plain-parts : (n : ℕ) → is_plain n ≡ true → (eqb n 6 ≡ false) × (n < 12)
 unfolding is_plain

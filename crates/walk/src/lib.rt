@@ -29,11 +29,11 @@ struct Step {
 fn moved(st: State, a: After) -> State
     ensures { result ≡ moved_to st a }
 {
-    let said = a.sink;
-    let mut s = st;
-    s.at = a.next;
-    s.sink = said;
-    s
+    State {
+        at: a.next,
+        sink: a.sink,
+        ..st
+    }
 }
 
 #[cycle(stmts)]
@@ -95,13 +95,10 @@ fn branch_else(
         return Some(then);
     }
     tables::enter(scratch, 9 - left);
-    let sink = t.sink;
-    let marks = *entry;
     let inner = State {
         at: k + 1,
-        sink,
-        keys: t.keys,
-        marks,
+        marks: *entry,
+        ..t
     };
     let mut e = analyze_stmts(texts, index, scratch, out, left - 1, inner)?;
     sheet::unite(&then.marks, &mut e.marks);
@@ -164,13 +161,11 @@ fn loop_body(
 }
 
 // Has the statement with this case byte no statements in it? A gate definition, an `if` and a loop have.
+#[tactic(auto, unfolding(crate::specs::Bodies::is_plain))]
 fn is_plain(case: u8) -> bool
     ensures { result ≡ is_plain case }
 {
-    if case < 12 {
-        return case != 6;
-    }
-    false
+    case != 6 && case < 12
 }
 
 // A statement without statements in it, whose keys are there.
@@ -241,10 +236,9 @@ fn keyed_stmt(
 {
     let count = keys_with(texts, index, scratch, keys, left, at)?;
     let a = plain_stmt(texts, &index[..count], scratch, out, left, marks, at, sink);
-    let said = a.sink;
     Some(Step {
         next: a.next,
-        sink: said,
+        sink: a.sink,
         keys: count,
     })
 }

@@ -1,9 +1,6 @@
 use Rattle.operands.proofs.WidthLaws.{widths_said}
 use Rattle.operands.proofs.check_measure_widths.Goals as goal
 
-pub returns-in_default : goal.returns-in_default
-returns-in_default c = search widths_said
-
 pub returns-in_default-operand_width : goal.returns-in_default-operand_width
 returns-in_default-operand_width c = search widths_said
 

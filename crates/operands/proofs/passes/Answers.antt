@@ -1,6 +1,6 @@
 use native.Mathlib.Omega.{arith}
 use Rattle.accepted.specs.Operands.{operand_below}
-use Rattle.operands.proofs.PassLaws.{pass_loud, pass_quiet}
+use Rattle.operands.proofs.PassLaws.{pass_quiet}
 use Rattle.operands.proofs.passes.Goals as goal
 
 pub is_quiet-requires : goal.is_quiet-requires
@@ -10,6 +10,3 @@ is_quiet-requires c =
 
 pub returns-then-is_quiet : goal.returns-then-is_quiet
 returns-then-is_quiet c = search pass_quiet
-
-pub returns-else-is_quiet : goal.returns-else-is_quiet
-returns-else-is_quiet c = search pass_loud

@@ -1,6 +1,6 @@
 use Rattle.std.proofs.Common.{rules}
-use Rattle.tables.proofs.Stores.{gate-stored}
+use Rattle.tables.proofs.Stores.{gate_stored}
 use Rattle.tables.proofs.store_gate.Goals as goal
 
 pub returns : goal.returns
-returns c = (search gate-stored, search rules)
+returns c = (search gate_stored, search rules)

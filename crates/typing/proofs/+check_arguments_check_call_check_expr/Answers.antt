@@ -8,6 +8,7 @@ use Rattle.typing.proofs.Names.{name_below}
 use Rattle.accepted.specs.Spans.{span-room, span_in}
 use Rattle.typing.proofs.Exprs.{int_typing, float_typing, bool_typing, const_typing, ident_typing, index_typing, neg_typing, pair_typing}
 use Rattle.typing.proofs.Arguments.{arguing_start, arguing_first, arguing_more, arguing_end, call_typing}
+use Rattle.typing.proofs.Callees.{callee_typed, callee_params}
 use Rattle.typing.proofs.+check_arguments_check_call_check_expr.Goals as goal
 
 pub check_arguments-overflow_add-k : goal.check_arguments-overflow_add-k
@@ -17,7 +18,7 @@ pub check_arguments-bounds-sema-at : goal.check_arguments-bounds-sema-at
 check_arguments-bounds-sema-at t c = counted_in _ _ _ _ _ c.requires.2
 
 pub check_arguments-loop-i-init : goal.check_arguments-loop-i-init
-check_arguments-loop-i-init t c = let p = c.requires in (arguing_start c.from-i-end.ensures p.2, refl)
+check_arguments-loop-i-init t c = let p = c.requires in (arguing_start refl p.2, refl)
 
 pub check_arguments-check_expr-t-requires : goal.check_arguments-check_expr-t-requires
 check_arguments-check_expr-t-requires t c = let g = c.loop-i.invariant.0 in let i = expr_in _ _ _ _ (arguing_first g c.loop-i-test.true) in (omega (arith, g.past), (arguing_first g c.loop-i-test.true))
@@ -55,11 +56,11 @@ check_call-check_callee-f-requires t c = let p = c.requires in (name_below c.u16
 pub check_call-overflow_sub-left-2 : goal.check_call-overflow_sub-left-2
 check_call-overflow_sub-left-2 t c = let l = expr_left _ _ _ _ c.requires.0 in omega arith
 
-pub check_call-check_arguments-after-requires : goal.check_call-check_arguments-after-requires
-check_call-check_arguments-after-requires t c = let p = c.requires in let i = (call-named _ _ _ _ p.0 p.1).inside in (omega arith, (name_below c.u16_at-x.ensures.0 (call-named _ _ _ _ p.0 p.1).below, c.check_callee-f.ensures.params, call-args _ _ _ _ p.0 p.1))
+pub check_call-check_arguments-sink-requires : goal.check_call-check_arguments-sink-requires
+check_call-check_arguments-sink-requires t c = let p = c.requires in let i = (call-named _ _ _ _ p.0 p.1).inside in (omega arith, (name_below c.u16_at-x.ensures.0 (call-named _ _ _ _ p.0 p.1).below, callee_params _ c.check_callee-f.ensures.sig c.map_or-params.ensures (λ sig h. search rules), call-args _ _ _ _ p.0 p.1))
 
 pub check_call-returns : goal.check_call-returns
-check_call-returns t c = let p = c.requires in call_typing _ _ _ _ _ _ p.0 p.1 c.u16_at-x.ensures.0 c.skip_exprs-end.ensures c.span_at-span.ensures c.from-n.ensures c.check_callee-f.ensures c.check_arguments-after.ensures
+check_call-returns t c = let p = c.requires in call_typing _ _ _ _ _ _ p.0 p.1 c.u16_at-x.ensures.0 c.skip_exprs-end.ensures c.span_at-span.ensures refl c.check_callee-f.ensures c.check_arguments-sink.ensures (callee_typed _ _ c.check_callee-f.ensures.sig c.map-typed.ensures.cases (λ sig ty h. search rules))
 
 pub check_expr-bounds-sema-at : goal.check_expr-bounds-sema-at
 check_expr-bounds-sema-at t c = expr_in _ _ _ _ c.requires

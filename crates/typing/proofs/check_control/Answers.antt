@@ -25,4 +25,4 @@ pub span_at-span-requires : goal.span_at-span-requires
 span_at-span-requires c = let p = c.requires in let e = option-some-next _ _ _ p.0 _ c.require_type-a.ensures.next c.if-sema-at-eq0.false in let l = p.1 in omega arith
 
 pub returns : goal.returns
-returns c = control-wrong _ _ _ _ _ c.requires.0 c.if-sema-at-eq0.false c.require_type-a.ensures c.eval_const_int-e.ensures c.is_count.ensures c.if-is_count.false c.span_at-span.ensures c.error.ensures c.report-after.ensures
+returns c = control-wrong _ _ _ _ _ c.requires.0 c.if-sema-at-eq0.false c.require_type-a.ensures c.eval_const_int-e.ensures c.is_count.ensures c.if-is_count.false c.span_at-span.ensures c.error.ensures c.report-sink.ensures

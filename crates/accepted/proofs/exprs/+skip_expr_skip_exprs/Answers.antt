@@ -1,11 +1,8 @@
 use mathlib.Core.Path.{sym}
 use Rattle.accepted.specs.Parts.{next_is}
-use Rattle.accepted.specs.Fields.{counted_in}
-use Rattle.accepted.specs.Remains.{remains-none, remains-first, remains-step, remains-done}
 use Rattle.accepted.specs.Exprs.{expr_in, expr_left, int_lit-inside, int_lit_is, float_lit_is, bool_lit_is, ident_is, index_is, call-args, call-inside, call_is, const_is, neg_inner, neg-inside, neg_is, operation, pair_lhs, pair_rhs, pair_next, pair_inside}
 use Rattle.text.proofs.Unlike.{unlike}
 use native.Mathlib.Omega.{arith}
-use Rattle.std.proofs.Common.{refl}
 use Rattle.accepted.proofs.exprs.+skip_expr_skip_exprs.Goals as goal
 
 pub skip_expr-bounds-s-at : goal.skip_expr-bounds-s-at
@@ -73,21 +70,3 @@ skip_expr-returns-in-7 t c = sym (next_is (neg_is _ _ _ _ c.requires c.in-7.is _
 
 pub skip_expr-returns-in_default : goal.skip_expr-returns-in_default
 skip_expr-returns-in_default t c = let p = c.requires in pair_next _ _ _ _ p (operation _ _ _ _ p (unlike 8 _ c.in_default.in_default-own.rest)) _ c.skip_expr-k.ensures _ c.skip_expr-in_default.ensures
-
-pub skip_exprs-overflow_add-k : goal.skip_exprs-overflow_add-k
-skip_exprs-overflow_add-k t c = let i = counted_in _ _ _ _ _ c.requires in omega arith
-
-pub skip_exprs-bounds-s-at : goal.skip_exprs-bounds-s-at
-skip_exprs-bounds-s-at t c = counted_in _ _ _ _ _ c.requires
-
-pub skip_exprs-loop-init : goal.skip_exprs-loop-init
-skip_exprs-loop-init t c = remains-none _ _ _ _ _ _ c.requires refl
-
-pub skip_exprs-skip_expr-k-requires : goal.skip_exprs-skip_expr-k-requires
-skip_exprs-skip_expr-k-requires t c = (omega arith, remains-first c.loop.invariant c.loop-test.true)
-
-pub skip_exprs-loop-preserved : goal.skip_exprs-loop-preserved
-skip_exprs-loop-preserved t c = remains-step c.loop.invariant c.loop-test.true c.skip_expr-k.ensures
-
-pub skip_exprs-returns : goal.skip_exprs-returns
-skip_exprs-returns t c = remains-done c.loop.invariant c.loop-test.false

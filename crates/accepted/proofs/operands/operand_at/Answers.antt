@@ -1,21 +1,9 @@
 use mathlib.Core.Path.{sym}
 use Rattle.accepted.specs.Parts.{next_is}
-use Rattle.accepted.specs.Operands.{operand-name_in, operand-index, operand-slice, operand-inside}
+use Rattle.accepted.specs.Operands.{operand-inside}
 use Rattle.accepted.proofs.ReadOperands.{operand_read}
 use native.Mathlib.Omega.{arith}
 use Rattle.accepted.proofs.operands.operand_at.Goals as goal
-
-pub u16_at-name-requires : goal.u16_at-name-requires
-u16_at-name-requires c = search operand-name_in
-
-pub overflow_add-at : goal.overflow_add-at
-overflow_add-at c = let i = operand-name_in _ _ _ c.requires in omega arith
-
-pub number_at-index-requires : goal.number_at-index-requires
-number_at-index-requires c = search operand-index
-
-pub ends_at-slice-requires : goal.ends_at-slice-requires
-ends_at-slice-requires c = operand-slice _ _ _ c.requires _ (sym (next_is c.number_at-index.ensures))
 
 pub span_at-span-requires : goal.span_at-span-requires
 span_at-span-requires c = operand-inside _ _ _ c.requires _ (sym (next_is c.number_at-index.ensures)) _ (sym (next_is c.ends_at-slice.ensures))

@@ -1,11 +1,7 @@
-use mathlib.Core.Path.{◌∙◌}
-use Rattle.accepted.specs.Operands.{slice-moves}
-use Rattle.accepted.specs.Sizes.{slice-sized, option_end_lem}
-use Rattle.accepted.proofs.SkipParts.{option-room}
+use Rattle.std.proofs.Common.{rules}
+use Rattle.accepted.specs.Sizes.{slice-sized}
+use Rattle.accepted.proofs.SkipParts.{option-sized}
 use Rattle.accepted.proofs.parts.skip_ends.Goals as goal
 
-pub skip_option-requires : goal.skip_option-requires
-skip_option-requires c = option-room _ 16 slice-sized _ _ slice-moves c.requires
-
 pub returns : goal.returns
-returns c = c.skip_option.ensures ∙ option_end_lem _ _ _ 16 slice-sized c.requires
+returns c = option-sized _ _ _ c.requires 16 slice-sized _ c.skip_option.ensures.none (λ z. let e = c.skip_option.ensures.some z in search rules)

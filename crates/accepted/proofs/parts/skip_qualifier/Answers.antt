@@ -1,11 +1,7 @@
-use mathlib.Core.Path.{◌∙◌}
-use Rattle.accepted.specs.Operands.{qualifier-moves}
-use Rattle.accepted.specs.Sizes.{qualifier-sized, option_end_lem}
-use Rattle.accepted.proofs.SkipParts.{option-room}
+use Rattle.std.proofs.Common.{rules}
+use Rattle.accepted.specs.Sizes.{qualifier-sized}
+use Rattle.accepted.proofs.SkipParts.{option-sized}
 use Rattle.accepted.proofs.parts.skip_qualifier.Goals as goal
 
-pub skip_option-requires : goal.skip_option-requires
-skip_option-requires c = option-room _ 1 qualifier-sized _ _ qualifier-moves c.requires
-
 pub returns : goal.returns
-returns c = c.skip_option.ensures ∙ option_end_lem _ _ _ 1 qualifier-sized c.requires
+returns c = option-sized _ _ _ c.requires 1 qualifier-sized _ c.skip_option.ensures.none (λ z. let e = c.skip_option.ensures.some z in search rules)

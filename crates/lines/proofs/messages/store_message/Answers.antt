@@ -1,6 +1,6 @@
 use Rattle.std.proofs.Common.{refl, arith}
 use Rattle.sema.specs.Messages.{message_parts}
-use Rattle.lines.proofs.Lines.{message-said, said-all}
+use Rattle.lines.proofs.Lines.{message-said, said-all, then_said, said-end}
 use Rattle.lines.proofs.messages.store_message.Goals as goal
 
 pub returns-in-AlreadyDeclared : goal.returns-in-AlreadyDeclared
@@ -13,7 +13,7 @@ returns-in-NotDeclared c = message-said _ c.in-NotDeclared.is c.named-in-NotDecl
 
 pub returns-in-ExpectedKind : goal.returns-in-ExpectedKind
 unfolding message_parts
-returns-in-ExpectedKind c = message-said _ c.in-ExpectedKind.is c.say.ensures refl (omega arith)
+returns-in-ExpectedKind c = message-said _ c.in-ExpectedKind.is (then_said c.say-p.ensures (then_said c.say-q.ensures (said-end c.say.ensures))) refl (omega arith)
 
 pub returns-in-CannotIndexGateQubit : goal.returns-in-CannotIndexGateQubit
 unfolding message_parts
@@ -21,7 +21,7 @@ returns-in-CannotIndexGateQubit c = message-said _ c.in-CannotIndexGateQubit.is 
 
 pub returns-in-IndexOutOfBounds : goal.returns-in-IndexOutOfBounds
 unfolding message_parts
-returns-in-IndexOutOfBounds c = message-said _ c.in-IndexOutOfBounds.is c.say-in-IndexOutOfBounds.ensures refl (omega arith)
+returns-in-IndexOutOfBounds c = message-said _ c.in-IndexOutOfBounds.is (then_said c.say-p-in-IndexOutOfBounds.ensures (then_said c.say-q-in-IndexOutOfBounds.ensures (then_said c.say-r.ensures (said-all c.copy.ensures)))) refl (omega arith)
 
 pub returns-in-CannotIndex : goal.returns-in-CannotIndex
 unfolding message_parts
@@ -29,7 +29,7 @@ returns-in-CannotIndex c = message-said _ c.in-CannotIndex.is c.named-in-CannotI
 
 pub returns-in-SliceOutOfBounds : goal.returns-in-SliceOutOfBounds
 unfolding message_parts
-returns-in-SliceOutOfBounds c = message-said _ c.in-SliceOutOfBounds.is c.say-in-SliceOutOfBounds.ensures refl (omega arith)
+returns-in-SliceOutOfBounds c = message-said _ c.in-SliceOutOfBounds.is (then_said c.say-p-in-SliceOutOfBounds.ensures (then_said c.say-q-in-SliceOutOfBounds.ensures (then_said c.say-r-in-SliceOutOfBounds.ensures (then_said c.say-s.ensures (said-all c.copy-in-SliceOutOfBounds.ensures))))) refl (omega arith)
 
 pub returns-in-CannotSlice : goal.returns-in-CannotSlice
 unfolding message_parts
@@ -37,7 +37,7 @@ returns-in-CannotSlice c = message-said _ c.in-CannotSlice.is c.named-in-CannotS
 
 pub returns-in-UsedIndex : goal.returns-in-UsedIndex
 unfolding message_parts
-returns-in-UsedIndex c = message-said _ c.in-UsedIndex.is c.say-in-UsedIndex.ensures refl (omega arith)
+returns-in-UsedIndex c = message-said _ c.in-UsedIndex.is (then_said c.say-p-in-UsedIndex.ensures (then_said c.say-q-in-UsedIndex.ensures (said-all c.copy-in-UsedIndex.ensures))) refl (omega arith)
 
 pub returns-in-Used : goal.returns-in-Used
 unfolding message_parts
@@ -53,15 +53,15 @@ returns-in-InputWithInit c = message-said _ c.in-InputWithInit.is c.named-in-Inp
 
 pub returns-in-CannotInitialize : goal.returns-in-CannotInitialize
 unfolding message_parts
-returns-in-CannotInitialize c = message-said _ c.in-CannotInitialize.is c.say-in-CannotInitialize.ensures refl (omega arith)
+returns-in-CannotInitialize c = message-said _ c.in-CannotInitialize.is (then_said c.say-p-in-CannotInitialize.ensures (then_said c.say-q-in-CannotInitialize.ensures (then_said c.say-r-in-CannotInitialize.ensures (said-all c.copy-in-CannotInitialize.ensures)))) refl (omega arith)
 
 pub returns-in-CannotAssign : goal.returns-in-CannotAssign
 unfolding message_parts
-returns-in-CannotAssign c = message-said _ c.in-CannotAssign.is c.say-in-CannotAssign.ensures refl (omega arith)
+returns-in-CannotAssign c = message-said _ c.in-CannotAssign.is (then_said c.say-p-in-CannotAssign.ensures (then_said c.say-q-in-CannotAssign.ensures (then_said c.say-r-in-CannotAssign.ensures (said-all c.copy-in-CannotAssign.ensures)))) refl (omega arith)
 
 pub returns-in-CompoundNumeric : goal.returns-in-CompoundNumeric
 unfolding message_parts
-returns-in-CompoundNumeric c = message-said _ c.in-CompoundNumeric.is (said-all c.copy.ensures) refl (omega arith)
+returns-in-CompoundNumeric c = message-said _ c.in-CompoundNumeric.is (said-all c.copy-in-CompoundNumeric.ensures) refl (omega arith)
 
 pub returns-in-AssignToConst : goal.returns-in-AssignToConst
 unfolding message_parts
@@ -73,11 +73,11 @@ returns-in-NotAssignable c = message-said _ c.in-NotAssignable.is c.named-in-Not
 
 pub returns-in-GateParams : goal.returns-in-GateParams
 unfolding message_parts
-returns-in-GateParams c = message-said _ c.in-GateParams.is c.say-in-GateParams.ensures refl (omega arith)
+returns-in-GateParams c = message-said _ c.in-GateParams.is (then_said c.say-p-in-GateParams.ensures (then_said c.say-q-in-GateParams.ensures (said-end c.say-in-GateParams.ensures))) refl (omega arith)
 
 pub returns-in-GateQubits : goal.returns-in-GateQubits
 unfolding message_parts
-returns-in-GateQubits c = message-said _ c.in-GateQubits.is c.say-in-GateQubits.ensures refl (omega arith)
+returns-in-GateQubits c = message-said _ c.in-GateQubits.is (then_said c.say-p-in-GateQubits.ensures (then_said c.say-q-in-GateQubits.ensures (said-end c.say-in-GateQubits.ensures))) refl (omega arith)
 
 pub returns-in-GateNotDefined : goal.returns-in-GateNotDefined
 unfolding message_parts
@@ -101,11 +101,11 @@ returns-in-FunctionAlreadyDefined c = message-said _ c.in-FunctionAlreadyDefined
 
 pub returns-in-FunctionReturns : goal.returns-in-FunctionReturns
 unfolding message_parts
-returns-in-FunctionReturns c = message-said _ c.in-FunctionReturns.is c.say-in-FunctionReturns.ensures refl (omega arith)
+returns-in-FunctionReturns c = message-said _ c.in-FunctionReturns.is (then_said c.say-p-in-FunctionReturns.ensures (then_said c.say-q-in-FunctionReturns.ensures (said-end c.say-in-FunctionReturns.ensures))) refl (omega arith)
 
 pub returns-in-MeasurementWidths : goal.returns-in-MeasurementWidths
 unfolding message_parts
-returns-in-MeasurementWidths c = message-said _ c.in-MeasurementWidths.is c.say-in-MeasurementWidths.ensures refl (omega arith)
+returns-in-MeasurementWidths c = message-said _ c.in-MeasurementWidths.is (then_said c.say-p-in-MeasurementWidths.ensures (then_said c.say-q-in-MeasurementWidths.ensures (said-all c.copy-in-MeasurementWidths.ensures))) refl (omega arith)
 
 pub returns-in-AlreadyMeasured : goal.returns-in-AlreadyMeasured
 unfolding message_parts
@@ -129,7 +129,7 @@ returns-in-PowerNumeric c = message-said _ c.in-PowerNumeric.is (said-all c.copy
 
 pub returns-in-MustHaveType : goal.returns-in-MustHaveType
 unfolding message_parts
-returns-in-MustHaveType c = message-said _ c.in-MustHaveType.is c.say-in-MustHaveType.ensures refl (omega arith)
+returns-in-MustHaveType c = message-said _ c.in-MustHaveType.is (then_said c.say-p-in-MustHaveType.ensures (then_said c.say-q-in-MustHaveType.ensures (said-end c.say-in-MustHaveType.ensures))) refl (omega arith)
 
 pub returns-in-NotClassical : goal.returns-in-NotClassical
 unfolding message_parts
@@ -149,11 +149,11 @@ returns-in-FunctionNotDefined c = message-said _ c.in-FunctionNotDefined.is c.na
 
 pub returns-in-FunctionArguments : goal.returns-in-FunctionArguments
 unfolding message_parts
-returns-in-FunctionArguments c = message-said _ c.in-FunctionArguments.is c.say-in-FunctionArguments.ensures refl (omega arith)
+returns-in-FunctionArguments c = message-said _ c.in-FunctionArguments.is (then_said c.say-p-in-FunctionArguments.ensures (then_said c.say-q-in-FunctionArguments.ensures (said-end c.say-in-FunctionArguments.ensures))) refl (omega arith)
 
 pub returns-in-ArgumentType : goal.returns-in-ArgumentType
 unfolding message_parts
-returns-in-ArgumentType c = message-said _ c.in-ArgumentType.is c.say-in-ArgumentType.ensures refl (omega arith)
+returns-in-ArgumentType c = message-said _ c.in-ArgumentType.is (then_said c.say-p-in-ArgumentType.ensures (then_said c.say-q-in-ArgumentType.ensures (then_said c.say-r-in-ArgumentType.ensures (said-end c.say-in-ArgumentType.ensures)))) refl (omega arith)
 
 pub returns-in-NegationNumeric : goal.returns-in-NegationNumeric
 unfolding message_parts

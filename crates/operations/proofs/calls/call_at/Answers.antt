@@ -1,4 +1,4 @@
-use Rattle.std.proofs.Common.{arith}
+use Rattle.std.proofs.Common.{refl, arith}
 use Rattle.accepted.specs.Fields.{counted_in}
 use Rattle.accepted.specs.Stmts.{gate_call-named, gate_call-modifiers, gate_call-params, gate_call-args, gate_call-inside}
 use Rattle.operations.proofs.Counted.{call-read}
@@ -32,4 +32,4 @@ span_at-span-requires c =
 pub returns : goal.returns
 returns c =
     call-read _ _ _ _ c.requires.0 c.requires.1 c.modifier_control_count-c.ensures c.skip_exprs-args_at.ensures c.skip_operands-end.ensures
-    c.u16_at-name.ensures.0 c.from-params.ensures c.from-args.ensures c.unwrap_or-controls.ensures c.span_at-span.ensures
+    c.u16_at-name.ensures.0 refl refl c.unwrap_or-controls.ensures c.span_at-span.ensures

@@ -1,8 +1,8 @@
 use Rattle.operations.proofs.Arity.{params_fit, params-differ}
 use Rattle.operations.proofs.calls.check_param_count.Goals as goal
 
-pub returns-then-got-params : goal.returns-then-got-params
-returns-then-got-params c = params_fit c.args.call _ c.args.decl c.if-got-params.true
+pub returns-then-call-params : goal.returns-then-call-params
+returns-then-call-params c = params_fit c.args.call _ c.args.decl c.if-call-params.true
 
 pub returns : goal.returns
-returns c = params-differ c.args.call _ c.args.decl c.if-got-params.false c.report.ensures
+returns c = params-differ c.args.call _ c.args.decl c.if-call-params.false (rw (c.from.ensures, c.from-2.ensures) at c.report_call.ensures)

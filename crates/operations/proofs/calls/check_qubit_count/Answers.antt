@@ -5,4 +5,4 @@ pub returns-then-is_arity : goal.returns-then-is_arity
 returns-then-is_arity c = qubits_fit c.args.call _ c.args.decl c.is_arity.ensures c.if-is_arity.true
 
 pub returns : goal.returns
-returns c = qubits-differ c.args.call _ c.args.decl c.is_arity.ensures c.if-is_arity.false c.report.ensures
+returns c = qubits-differ c.args.call _ c.args.decl c.is_arity.ensures c.if-is_arity.false (rw (c.from.ensures, c.from-2.ensures) at c.report_call.ensures)

@@ -8,25 +8,28 @@ use Rattle.reader.proofs.bodies.+bodies.Given as goal
 
 -- the levels left, and at one level the order of the calls
 abbrev pub decreases-read_stmt : goal.decreases-read_stmt
-decreases-read_stmt l = 4 * l.left
+decreases-read_stmt l = 5 * l.left
 
 abbrev pub decreases-read_body : goal.decreases-read_body
-decreases-read_body l = 4 * l.left + 1
+decreases-read_body l = 5 * l.left + 1
 
 abbrev pub decreases-read_else : goal.decreases-read_else
-decreases-read_else l = 4 * l.left + 2
+decreases-read_else l = 5 * l.left + 3
+
+abbrev pub decreases-read_else-read : goal.decreases-read_else-read
+decreases-read_else-read l = 5 * l.left + 2
 
 abbrev pub decreases-read_gate_def : goal.decreases-read_gate_def
-decreases-read_gate_def l = 4 * l.left + 3
+decreases-read_gate_def l = 5 * l.left + 4
 
 abbrev pub decreases-read_if : goal.decreases-read_if
-decreases-read_if l = 4 * l.left + 3
+decreases-read_if l = 5 * l.left + 4
 
 abbrev pub decreases-read_for : goal.decreases-read_for
-decreases-read_for l = 4 * l.left + 3
+decreases-read_for l = 5 * l.left + 4
 
 abbrev pub decreases-read_while : goal.decreases-read_while
-decreases-read_while l = 4 * l.left + 3
+decreases-read_while l = 5 * l.left + 4
 
 abbrev pub invariant-read_body-loop : goal.invariant-read_body-loop
 invariant-read_body-loop l =

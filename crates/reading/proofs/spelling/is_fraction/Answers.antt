@@ -1,8 +1,5 @@
-use Rattle.reading.proofs.Spelled.{fraction_point, fraction_stop}
+use Rattle.reading.proofs.Spelled.{fraction_point}
 use Rattle.reading.proofs.spelling.is_fraction.Goals as goal
 
 pub returns-then-x-i-eq46 : goal.returns-then-x-i-eq46
 returns-then-x-i-eq46 c = fraction_point _ _ c.in-Some.ensures c.if-x-i-eq46.true _ c.is_digits.ensures
-
-pub returns-else-x-i-eq46 : goal.returns-else-x-i-eq46
-returns-else-x-i-eq46 c = fraction_stop _ _ c.in-Some.ensures c.if-x-i-eq46.false

@@ -5,4 +5,4 @@ pub returns-then-params-i : goal.returns-then-params-i
 returns-then-params-i c = let p = c.requires in argument_free _ _ _ _ c.args.t.typed p.1 c.if-params-i.true
 
 pub returns : goal.returns
-returns c = argument_there _ _ _ _ c.args.t.typed c.requires.1 c.if-params-i.false c.param_type-expected.ensures c.check_wanted.ensures
+returns c = argument_there _ _ _ _ c.args.t.typed c.requires.1 c.if-params-i.false (rw c.from.ensures at c.param_type-expected.ensures) (rw c.from-2.ensures at c.check_wanted.ensures)

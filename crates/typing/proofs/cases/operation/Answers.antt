@@ -1,14 +1,12 @@
 use Rattle.typing.proofs.Operators.{operation-left, operation-right, operation-typed, operation-refused}
 use Rattle.typing.proofs.cases.operation.Goals as goal
+use Rattle.typing.proofs.cases.operation.Goals.{in_default-via-in-Some+in_default, in_default-via-in_default}
 
 pub returns-in_default : goal.returns-in_default
-returns-in_default c = operation-left _ _ c.args.t.typed c.in_default.is
+returns-in_default c = elim c.in_default.branch [ in_default-via-in_default w ↦ operation-left _ _ _ w.in_default.is-0 | in_default-via-in-Some+in_default w ↦ operation-right _ _ w.in_default.is-0 w.in_default.is-1 ]
 
-pub returns-in_default-found : goal.returns-in_default-found
-returns-in_default-found c = operation-right _ _ c.in-Some.is c.in_default-found.is
-
-pub returns-in_default-result : goal.returns-in_default-result
-returns-in_default-result c = operation-refused c.span_at-span.ensures _ c.in-Some.is c.in-Some-found.is c.pair_type-result.ensures c.in_default-result.is c.pair_message-message.ensures c.refuse.ensures
+pub returns-in_default-pair_type : goal.returns-in_default-pair_type
+returns-in_default-pair_type c = operation-refused c.span_at-span.ensures _ c.in-Some-Some.is-0 c.in-Some-Some.is-1 c.pair_type.ensures c.in_default-pair_type.is c.pair_message.ensures c.refuse.ensures
 
 pub returns : goal.returns
-returns c = operation-typed _ _ c.in-Some.is c.in-Some-found.is c.pair_type-result.ensures c.in-Some-result.is c.has_type.ensures
+returns c = operation-typed _ _ c.in-Some-Some.is-0 c.in-Some-Some.is-1 c.pair_type.ensures c.in-Some.is c.has_type.ensures

@@ -1,8 +1,0 @@
-use Rattle.std.proofs.Common.{◌∙◌, rules}
-use Rattle.tree.specs.Stmts.{operand}
-use Rattle.tree.specs.Decode.{texts_of}
-use Rattle.reading.proofs.Held.{skip, option_skip}
-use Rattle.forms.proofs.parts.read_optional_operand.Goals as goal
-
-pub returns : goal.returns
-returns c = c.read_option.ensures (skip (operand (texts_of c.args.source.now.bytes.now))) (λ k r h. search rules) ∙ option_skip _ _ _
