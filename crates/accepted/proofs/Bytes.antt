@@ -1,40 +1,39 @@
 -- A number from its bytes. Assumes nothing.
-use Prim.Native.Nat.{ℕ, ◌+◌, ◌*◌, ◌^◌, ◌≤◌, ◌<◌}
-use mathlib.Core.Path.{◌≡◌, sym, ◌∙◌}
-use mathlib.Core.List.{List, [], ◌∷◌}
+use Prim.Native.Nat.{ℕ, zero, suc, ◌+◌, ◌-◌, ◌*◌, ◌^◌, ◌≤◌, ◌<◌}
+use Rattle.std.proofs.Common.{◌≡◌, refl, sym, ◌∙◌}
+use mathlib.Core.List.{List}
 use native.Mathlib.Omega.{arith}
-use lib.ListN.{length, get_or}
-use Rattle.std.proofs.Common.{w16, w32, w64}
-use Rattle.std.specs.Int.{from_be_bytes}
+use lib.ListN.{length, get_or, take, drop}
+use Rattle.std.proofs.Common.{pow-suc, take_all}
+use Rattle.std.proofs.Math.Nat.{pow-zero}
+use Rattle.std.specs.Int.{Width, byte_len, byte_worth, sum_through, from_be_bytes}
 use Rattle.context.specs.View.{number_at}
-use Rattle.accepted.specs.Numbers.{one_byte, number-join}
+use Rattle.accepted.specs.Numbers.{one_byte, number-join, raise, taken}
 
-halves : (width : ℕ) (s : List ℕ) (at : ℕ) {a b : ℕ} → at + width + width ≤ length s → a ≡ number_at width s at → b ≡ number_at width s (at + width) → a * 256 ^ width + b ≡ number_at (width + width) s at
-halves width s at h p q = rw (p, q) (sym (number-join s at width width h))
+worth : (i b : ℕ) → byte_worth i b ≡ b * 256 ^ i
+worth zero b = rw (pow-zero 256) (omega arith)
+worth (suc i) b = refl
 
-pub two_bytes : (s : List ℕ) (at : ℕ) {a b : ℕ} → at + 2 ≤ length s → a ≡ get_or s at 0 → b ≡ get_or s (at + 1) 0 → from_be_bytes w16 (a ∷ b ∷ []) ≡ number_at 2 s at
-two_bytes s at {a} {b} h p q =
-    let i : at < length s = omega arith in
-    let j : at + 1 < length s = omega arith in
-    let k : at + 1 + 1 ≤ length s = omega arith in
-    let e : from_be_bytes w16 (a ∷ b ∷ []) ≡ a * 256 + b = omega arith in
-    e ∙ halves 1 s at k (p ∙ sym (one_byte s at i)) (q ∙ sym (one_byte s (at + 1) j))
+-- the first bytes of a number of `m + 1`: each counts 256 for each byte behind it
+first : (bs : List ℕ) (m n : ℕ) → n < length bs → n ≤ m → sum_through (λ i. byte_worth (m - i) (get_or bs i 0)) n ≡ number_at (suc n) bs 0 * 256 ^ (m - n)
+first bs m zero h l = rw (one_byte bs 0 h) (worth (m - 0) (get_or bs 0 0))
+first bs m (suc n) h l =
+    let v : ℕ = number_at (suc n) bs 0 in
+    let b : ℕ = get_or bs (suc n) 0 in
+    let e : m - n ≡ suc (m - suc n) = omega arith in
+    let f : sum_through (λ i. byte_worth (m - i) (get_or bs i 0)) n ≡ v * (256 ^ (m - suc n) * 256) = first bs m n (omega arith) (omega arith) ∙ rw (e, pow-suc 256 (m - suc n)) refl in
+    let k : suc n + 1 ≡ suc (suc n) = omega arith in
+    let o : 0 + suc n ≡ suc n = omega arith in
+    let j : number_at (suc (suc n)) bs 0 ≡ v * 256 + b = rw (k, o, one_byte bs (suc n) h) at (number-join bs 0 (suc n) 1 (omega arith)) in
+    rw (f, worth (m - suc n) b, j) (sym (raise v b (256 ^ (m - suc n))))
 
-pub four_bytes : (s : List ℕ) (at : ℕ) {a b c d : ℕ} → at + 4 ≤ length s → a ≡ get_or s at 0 → b ≡ get_or s (at + 1) 0 → c ≡ get_or s (at + 2) 0 → d ≡ get_or s (at + 3) 0 → from_be_bytes w32 (a ∷ b ∷ c ∷ d ∷ []) ≡ number_at 4 s at
-four_bytes s at {a} {b} {c} {d} h p q r t =
-    let n : at + 2 + 1 ≡ at + 3 = omega arith in
-    let high : from_be_bytes w16 (a ∷ b ∷ []) ≡ number_at 2 s at = two_bytes s at (omega arith) p q in
-    let low : from_be_bytes w16 (c ∷ d ∷ []) ≡ number_at 2 s (at + 2) = two_bytes s (at + 2) (omega arith) r (rw n t) in
-    let e : from_be_bytes w32 (a ∷ b ∷ c ∷ d ∷ []) ≡ from_be_bytes w16 (a ∷ b ∷ []) * 65536 + from_be_bytes w16 (c ∷ d ∷ []) = omega arith in
-    e ∙ halves 2 s at (omega arith) high low
+whole : (s : List ℕ) (at n : ℕ) → at + suc n ≤ length s → sum_through (λ i. byte_worth (n - i) (get_or (take (suc n) (drop at s)) i 0)) n ≡ number_at (suc n) s at
+whole s at n h =
+    let bs : List ℕ = take (suc n) (drop at s) in
+    let l : length bs ≡ suc n = taken s at (suc n) h in
+    let z : n - n ≡ 0 = omega arith in
+    let e : take (suc n) bs ≡ bs = take_all (suc n) bs (omega arith) in
+    first bs n n (omega arith) (omega arith) ∙ rw (z, pow-zero 256, e) (omega arith)
 
-pub eight_bytes : (s : List ℕ) (at : ℕ) {a b c d i j k l : ℕ} → at + 8 ≤ length s → a ≡ get_or s at 0 → b ≡ get_or s (at + 1) 0 → c ≡ get_or s (at + 2) 0 → d ≡ get_or s (at + 3) 0
-    → i ≡ get_or s (at + 4) 0 → j ≡ get_or s (at + 5) 0 → k ≡ get_or s (at + 6) 0 → l ≡ get_or s (at + 7) 0 → from_be_bytes w64 (a ∷ b ∷ c ∷ d ∷ i ∷ j ∷ k ∷ l ∷ []) ≡ number_at 8 s at
-eight_bytes s at {a} {b} {c} {d} {i} {j} {k} {l} h p q r t u v w x =
-    let n : at + 4 + 1 ≡ at + 5 = omega arith in
-    let m : at + 4 + 2 ≡ at + 6 = omega arith in
-    let o : at + 4 + 3 ≡ at + 7 = omega arith in
-    let high : from_be_bytes w32 (a ∷ b ∷ c ∷ d ∷ []) ≡ number_at 4 s at = four_bytes s at (omega arith) p q r t in
-    let low : from_be_bytes w32 (i ∷ j ∷ k ∷ l ∷ []) ≡ number_at 4 s (at + 4) = four_bytes s (at + 4) (omega arith) u (rw n v) (rw m w) (rw o x) in
-    let e : from_be_bytes w64 (a ∷ b ∷ c ∷ d ∷ i ∷ j ∷ k ∷ l ∷ []) ≡ from_be_bytes w32 (a ∷ b ∷ c ∷ d ∷ []) * 4294967296 + from_be_bytes w32 (i ∷ j ∷ k ∷ l ∷ []) = omega arith in
-    e ∙ halves 4 s at (omega arith) high low
+pub be_bytes : (w : Width) (n : ℕ) → byte_len w ≡ suc n → (s : List ℕ) (at : ℕ) → at + suc n ≤ length s → (bs : List ℕ) → bs ≡ take (suc n) (drop at s) → from_be_bytes w bs ≡ number_at (suc n) s at
+be_bytes w n e s at h bs f = let z : suc n - 1 ≡ n = omega arith in rw (f, e, z) (whole s at n h)

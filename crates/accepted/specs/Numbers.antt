@@ -10,7 +10,7 @@ unfolding value
 value-join high [] ys = refl
 value-join high (x ∷ xs) ys = value-join (high * 256 + x) xs ys
 
-raise : (high y p : ℕ) → (high * 256 + y) * p ≡ high * (p * 256) + y * p
+pub raise : (high y p : ℕ) → (high * 256 + y) * p ≡ high * (p * 256) + y * p
 raise high y p = add-mul (high * 256) y p ∙ ap (λ n. n + y * p) (mul_assoc high 256 p ∙ ap (λ n. high * n) (mul_comm 256 p))
 
 -- what stands before counts 256 for each byte behind it
@@ -23,7 +23,7 @@ value-high high (y ∷ ys) =
     let b : value (0 * 256 + y) ys ≡ 0 * (p * 256) + y * p + value 0 ys = value-high (0 * 256 + y) ys ∙ ap (λ n. n + value 0 ys) (raise 0 y p) in
     rw (pow-suc 256 (length ys)) (omega arith)
 
-taken : (s : List ℕ) (at width : ℕ) → at + width ≤ length s → length (take width (drop at s)) ≡ width
+pub taken : (s : List ℕ) (at width : ℕ) → at + width ≤ length s → length (take width (drop at s)) ≡ width
 taken s at width h = simp (length-take, length-drop) (omega arith)
 
 module _ (s : List ℕ) (at : ℕ) where

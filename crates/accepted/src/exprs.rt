@@ -10,6 +10,7 @@ use crate::parts::{skip_option, skip_vec};
 
 // The place past an expression with so many levels left.
 #[cycle(skip_expr_skip_exprs)]
+#[tactic(auto, using(crate::proofs::SkipParts::exprs))]
 pub fn skip_expr(s: &[u8], at: usize, left: usize) -> usize
     requires { IsOk (expr (texts_of s.now) left s.now at) }
     ensures { result ≡ next_of (expr (texts_of s.now) left s.now at) }

@@ -1,5 +1,5 @@
 // Bytes, numbers, big-endian, and spans.
-ghost use Rattle.std.specs.Prelude.{◌≡◌, ◌+◌, ◌≤◌, ◌<◌, length, get_or};
+ghost use Rattle.std.specs.Prelude.{◌≡◌, ◌+◌, ◌≤◌, ◌<◌, length, get_or, take, drop};
 ghost use Rattle.context.specs.View.{number_at, span_at};
 
 use span::Span;
@@ -11,37 +11,32 @@ pub(crate) fn byte_at(s: &[u8], at: usize) -> u8
     s[at]
 }
 
-#[tactic(auto, using(crate::proofs::Bytes::two_bytes))]
+fn bytes_at<const N: usize>(s: &[u8], at: usize) -> [u8; N]
+    requires { at + N ≤ length s.now }
+    ensures { result ≡ take N (drop at s.now) }
+{
+    *s[at..at + N].first_chunk().unwrap()
+}
+
 pub fn u16_at(s: &[u8], at: usize) -> usize
     requires { at + 2 ≤ length s.now }
     ensures { (result ≡ number_at 2 s.now at) × (result < 65536) }
 {
-    usize::from(u16::from_be_bytes([s[at], s[at + 1]]))
+    usize::from(u16::from_be_bytes(bytes_at(s, at)))
 }
 
-#[tactic(auto, using(crate::proofs::Bytes::four_bytes))]
 fn u32_at(s: &[u8], at: usize) -> u32
     requires { at + 4 ≤ length s.now }
     ensures { result ≡ number_at 4 s.now at }
 {
-    u32::from_be_bytes([s[at], s[at + 1], s[at + 2], s[at + 3]])
+    u32::from_be_bytes(bytes_at(s, at))
 }
 
-#[tactic(auto, using(crate::proofs::Bytes::eight_bytes))]
 pub fn u64_at(s: &[u8], at: usize) -> u64
     requires { at + 8 ≤ length s.now }
     ensures { result ≡ number_at 8 s.now at }
 {
-    u64::from_be_bytes([
-        s[at],
-        s[at + 1],
-        s[at + 2],
-        s[at + 3],
-        s[at + 4],
-        s[at + 5],
-        s[at + 6],
-        s[at + 7],
-    ])
+    u64::from_be_bytes(bytes_at(s, at))
 }
 
 pub fn span_at(s: &[u8], at: usize) -> Span

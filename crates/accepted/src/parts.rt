@@ -5,7 +5,7 @@ ghost use Rattle.tree.specs.Read.{u64, option, vec};
 ghost use Rattle.tree.specs.Exprs.{name};
 ghost use Rattle.tree.specs.Stmts.{qualifier, slice, operand, modifier, for_range, param};
 ghost use Rattle.tree.specs.Decode.{texts_of};
-ghost use Rattle.accepted.specs.Steps.{Reached};
+ghost use Rattle.accepted.specs.Steps.{Reached, Skipped};
 
 use crate::exprs::{skip_expr, skip_option_expr};
 use crate::singles::is_single;
@@ -14,8 +14,7 @@ use crate::singles::is_single;
 pub(crate) fn skip_option<F: FnOnce(usize) -> usize>(s: &[u8], at: usize, skip: F) -> usize
     requires at_in_bounds { at < length s.now }
     requires callable { get_or s.now at 0 ≢ 0 → F.pre skip (at + 1) }
-    ensures none { get_or s.now at 0 ≡ 0 → result ≡ at + 1 }
-    ensures some { get_or s.now at 0 ≢ 0 → F.post skip (at + 1) result }
+    ensures { Skipped (F.post skip) (get_or s.now at 0) (at + 1) result }
 {
     if s[at] == 0 {
         return at + 1;

@@ -17,6 +17,7 @@ pub fn is_single(s: &[u8], at: usize) -> bool
     s[at + 2] != 0 && s[at + 11] == 0
 }
 
+#[tactic(auto, using(crate::specs::Singles::single_inside))]
 pub fn single_at(s: &[u8], at: usize) -> GateOperand
     requires { IsOk (operand (texts_of s.now) s.now at) × (is_single s.now at ≡ true) }
     ensures { operand (texts_of s.now) s.now at ≡ ok (operand_of result) (at + 20) }

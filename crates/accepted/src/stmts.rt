@@ -101,6 +101,7 @@ fn skip_compound(s: &[u8], at: usize, left: usize) -> usize
 {
     let k = body_place(s, at, left);
     let m = skip_body(s, k, left - 1);
+    // An `if`, by the case byte, as the matches.
     if s[at] == 12 {
         return skip_else(s, m, left - 1) + 8;
     }

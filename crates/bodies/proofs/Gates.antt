@@ -32,10 +32,11 @@ use Rattle.bodies.specs.Opened.{gate_qubits, gate_known, GateOpened}
 use Rattle.bodies.specs.Parts.{GatePartsOf, GateEntered}
 
 -- the parts as they are read
-pub parts_of : (tree : List ℕ) (left at x k m n : ℕ) (sp : Span) → IsOk (stmt (texts_of tree) left tree at) → get_or tree at 0 ≡ 6 → x ≡ number_at 2 tree (at + 1) → k ≡ gate_qubits tree left at → m ≡ next_of (vec (name (texts_of tree)) tree k) → n ≡ next_of (body (stmt (texts_of tree) (left - 1)) tree m) → sp ≡ span_at tree n → GatePartsOf tree left at (record { name = x; qubits_at = k; body_at = m; span = sp })
+pub parts_of : (tree : List ℕ) (left at x k m n : ℕ) (sp : Span) → IsOk (stmt (texts_of tree) left tree at) → get_or tree at 0 ≡ 6 → x ≡ number_at 2 tree (at + 1) → k ≡ gate_qubits tree left at → m ≡ next_of (vec (name (texts_of tree)) tree k) → n ≡ next_of (body (stmt (texts_of tree) (left - 1)) tree m) → sp ≡ span_at tree n → GatePartsOf tree left at (record { name = x; params_at = at + 3; qubits_at = k; body_at = m; span = sp })
 parts_of tree left at x k m n sp h b x-is k_is m-is n-is sp-is = record {
   name_is = x-is;
   named = rw x-is (gate_def-named (texts_of tree) left tree at h b).below;
+  params_are = refl;
   qubits_are = k_is;
   body_is = cc;
   span_is = cc;
@@ -63,13 +64,13 @@ gate-entered s u v depth x p q params qparams sp p-is q-is l g e =
       same_rest = e.same_rest ∙ d.same_rest;
     }
 
-pub gate-opened : (tree : List ℕ) (left : ℕ) (st : State) (s o s' o' : List ℕ) (r : GateParts) (sink : Sink) → GatePartsOf tree left st.at r → Emitted (texts_of tree) (gate_known (gates_of s) r.name r.span) st.sink o sink o' → GateEntered s s' (9 - left) r.name (value_or [] (vec (name (texts_of tree)) tree (st.at + 3))) (value_or [] (vec (name (texts_of tree)) tree r.qubits_at)) r.span → GateOpened tree left st s o (record { at = r.body_at; sink = sink; keys = st.keys; marks = st.marks }) s' o'
+pub gate-opened : (tree : List ℕ) (left : ℕ) (st : State) (s o s' o' : List ℕ) (r : GateParts) (sink : Sink) → GatePartsOf tree left st.at r → Emitted (texts_of tree) (gate_known (gates_of s) r.name r.span) st.sink o sink o' → GateEntered s s' (9 - left) r.name (value_or [] (vec (name (texts_of tree)) tree r.params_at)) (value_or [] (vec (name (texts_of tree)) tree r.qubits_at)) r.span → GateOpened tree left st s o (record { at = r.body_at; sink = sink; keys = st.keys; marks = st.marks }) s' o'
 gate-opened tree left st s o s' o' r sink p e b = record {
   at = p.body_is;
   keys = refl;
   marks = refl;
   emitted = rw (← p.span_is, ← p.name_is) e;
-  becomes = rw (← p.span_is, ← p.qubits_are, ← p.name_is) b;
+  becomes = rw (← p.span_is, ← p.qubits_are, ← p.params_are, ← p.name_is) b;
 }
 
 -- what is known of the parts where they are read

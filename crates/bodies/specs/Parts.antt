@@ -20,6 +20,7 @@ use Rattle.bodies.specs.Opened.{gate_qubits, gate_body, gate_span, for_body, for
 pub record GatePartsOf (tree : List ℕ) (left at : ℕ) (r : GateParts) : Type 0 where
   pub name_is : r.name ≡ number_at 2 tree (at + 1)
   pub named : r.name < length (texts_of tree)
+  pub params_are : r.params_at ≡ at + 3
   pub qubits_are : r.qubits_at ≡ gate_qubits tree left at
   pub body_is : r.body_at ≡ gate_body tree left at
   pub span_is : r.span ≡ gate_span tree left at

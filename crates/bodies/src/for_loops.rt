@@ -2,8 +2,7 @@
 ghost use Rattle.std.specs.Prelude.{◌≡◌, [], get_or};
 ghost use Rattle.tree.specs.Ans.{IsOk, given};
 ghost use Rattle.tree.specs.Read.{option};
-ghost use Rattle.tree.specs.Stmts.{stmt, held, for_range};
-ghost use Rattle.tree.specs.Decode.{texts_of};
+ghost use Rattle.tree.specs.Stmts.{held, for_range};
 ghost use Rattle.sema.specs.Stmts.{step_says};
 ghost use Rattle.context.specs.Given.{texts, scopes, functions};
 ghost use Rattle.promises.specs.Emitted.{Emitted};
@@ -14,7 +13,7 @@ use accepted::numbers::{span_at, u16_at};
 use accepted::parts::skip_range;
 use accepted::stmts::skip_body;
 use ast::ClassicalType;
-use context::{SemaContext, Sink};
+use context::{SemaContext, Sink, StmtAt};
 use lines::{Message, Place};
 use scopes::type_at;
 use span::Span;
@@ -29,14 +28,16 @@ pub struct ForParts {
 }
 
 #[tactic(auto, using(crate::proofs::Loops::loops))]
-pub fn for_parts(tree: &[u8], at: usize, left: usize) -> ForParts
-    requires { IsOk (stmt (texts_of tree.now) left tree.now at) × (get_or tree.now at 0 ≡ 13) }
-    ensures { ForPartsOf tree.now left at result }
+pub fn for_parts(here: StmtAt<'_>) -> ForParts
+    requires { get_or here.texts.tree.now here.at 0 ≡ 13 }
+    ensures { ForPartsOf here.entry.texts.tree.now here.entry.left here.entry.at result }
 {
+    let tree = here.texts.tree;
+    let at = here.at;
     let name = u16_at(tree, at + 1);
     let ty = type_at(tree, at + 3);
     let body_at = skip_range(tree, at + 4);
-    let span = span_at(tree, skip_body(tree, body_at, left - 1));
+    let span = span_at(tree, skip_body(tree, body_at, here.left - 1));
     ForParts {
         name,
         ty,

@@ -3,7 +3,6 @@ ghost use Rattle.std.specs.Prelude.{◌≡◌, [], ◌≤◌, ◌<◌, length, g
 ghost use Rattle.tree.specs.Ans.{IsOk};
 ghost use Rattle.tree.specs.Read.{vec};
 ghost use Rattle.tree.specs.Exprs.{name};
-ghost use Rattle.tree.specs.Stmts.{stmt};
 ghost use Rattle.tree.specs.Decode.{texts_of};
 ghost use Rattle.context.specs.Given.{texts};
 ghost use Rattle.context.specs.View.{gates_of};
@@ -15,7 +14,7 @@ ghost use Rattle.bodies.specs.Parts.{GatePartsOf, GateEntered};
 use accepted::numbers::{span_at, u16_at};
 use accepted::parts::skip_names;
 use accepted::stmts::skip_body;
-use context::{GateSig, SemaContext, Sink};
+use context::{GateSig, SemaContext, Sink, StmtAt};
 use lines::Message;
 use span::Span;
 
@@ -23,22 +22,26 @@ use span::Span;
 #[derive(Clone, Copy)]
 pub struct GateParts {
     pub name: usize,
+    pub params_at: usize,
     pub qubits_at: usize,
     pub body_at: usize,
     pub span: Span,
 }
 
 #[tactic(auto, using(crate::proofs::Gates::gates))]
-pub fn gate_parts(tree: &[u8], at: usize, left: usize) -> GateParts
-    requires { IsOk (stmt (texts_of tree.now) left tree.now at) × (get_or tree.now at 0 ≡ 6) }
-    ensures { GatePartsOf tree.now left at result }
+pub fn gate_parts(here: StmtAt<'_>) -> GateParts
+    requires { get_or here.texts.tree.now here.at 0 ≡ 6 }
+    ensures { GatePartsOf here.entry.texts.tree.now here.entry.left here.entry.at result }
 {
+    let tree = here.texts.tree;
+    let at = here.at;
     let name = u16_at(tree, at + 1);
     let qubits_at = skip_names(tree, at + 3);
     let body_at = skip_names(tree, qubits_at);
-    let span = span_at(tree, skip_body(tree, body_at, left - 1));
+    let span = span_at(tree, skip_body(tree, body_at, here.left - 1));
     GateParts {
         name,
+        params_at: at + 3,
         qubits_at,
         body_at,
         span,
@@ -71,16 +74,23 @@ fn count_at(tree: &[u8], at: usize) -> u8
     tree[at]
 }
 
-// The gate is defined, and the scope of its parameters, which stand at `at`, is entered.
-pub fn define_gate(tree: &[u8], scratch: &mut [u8], depth: usize, at: usize, parts: GateParts)
-    requires { (65536 ≤ length scratch.old) × (depth < 9) × (length (texts_of tree.now) ≤ 256) × (parts.name < 256) × IsOk (vec (name (texts_of tree.now)) tree.now at) × IsOk (vec (name (texts_of tree.now)) tree.now parts.qubits_at) }
-    ensures { GateEntered scratch.old scratch.new depth parts.name (value_or [] (vec (name (texts_of tree.now)) tree.now at)) (value_or [] (vec (name (texts_of tree.now)) tree.now parts.qubits_at)) parts.span }
+// The gate is defined, and the scope of its parameters is entered.
+pub fn define_gate(tree: &[u8], scratch: &mut [u8], depth: usize, parts: GateParts)
+    requires { (65536 ≤ length scratch.old) × (depth < 9) × (length (texts_of tree.now) ≤ 256) × (parts.name < 256) × IsOk (vec (name (texts_of tree.now)) tree.now parts.params_at) × IsOk (vec (name (texts_of tree.now)) tree.now parts.qubits_at) }
+    ensures { GateEntered scratch.old scratch.new depth parts.name (value_or [] (vec (name (texts_of tree.now)) tree.now parts.params_at)) (value_or [] (vec (name (texts_of tree.now)) tree.now parts.qubits_at)) parts.span }
 {
     let sig = GateSig {
-        param_count: count_at(tree, at),
+        param_count: count_at(tree, parts.params_at),
         qubit_count: count_at(tree, parts.qubits_at),
         decl_span: parts.span,
     };
     tables::define_gate(scratch, parts.name, sig);
-    scopes::enter_gate(tree, scratch, depth, at, parts.qubits_at, parts.span);
+    scopes::enter_gate(
+        tree,
+        scratch,
+        depth,
+        parts.params_at,
+        parts.qubits_at,
+        parts.span,
+    );
 }

@@ -1,12 +1,16 @@
 // Reads the trees of a file of cases, each behind its length in four bytes.
 #![tactic(auto)]
 
-ghost use Rattle.std.specs.Prelude.{◌≡◌, ◌<◌, ◌≤◌, length, take, IfOk};
+ghost use Rattle.std.specs.Prelude.{◌≡◌, ◌<◌, ◌≤◌, ℕ, List, Option, Ok, length, take, IfOk};
+ghost use Rattle.std.specs.Fn.{CalledAt};
 ghost use Rattle.std.specs.Io.KnownBytes.{Consumes, IsAtEnd};
-ghost use Rattle.cases.specs.Case.{size_of, length_bytes, Taken};
+ghost use Rattle.cases.specs.Case.{size_of, length_bytes, Taken, Given};
 
 use std::io;
 use std::io::Read;
+
+// More cases than an input has. The loop has a bound, since nothing says that an input ends.
+const CASES: usize = 10000;
 
 // Reads until the buffer is full or the input ends: how many bytes were read. (`read_exact` fails where the input ends.)
 pub fn read_full<R: Read>(input: &mut R, buffer: &mut [u8]) -> io::Result<usize>
@@ -50,4 +54,22 @@ pub fn next<R: Read>(input: &mut R, space: &mut [u8]) -> io::Result<Option<usize
         return Ok(None);
     }
     Ok(Some(n))
+}
+
+// Gives the trees to the closure, one after the other.
+pub fn each<R: Read, F: FnMut(&[u8]) -> io::Result<()>>(
+    input: &mut R,
+    space: &mut [u8],
+    mut visit: F,
+) -> io::Result<()>
+    requires { F.IsAlwaysCallable visit }
+    ensures { IfOk result (λ _. (rest : Option (List ℕ)) × (last : F) × Given (λ f tree g. CalledAt F.FnMut f tree (Ok tt) g) visit (R.remaining input.old) rest last) }
+{
+    for _ in 0..CASES {
+        let Some(n) = next(input, space)? else {
+            break;
+        };
+        visit(&space[..n])?;
+    }
+    Ok(())
 }

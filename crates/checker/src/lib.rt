@@ -17,7 +17,7 @@ use context::{Index, Key, Places, Sink, State, Texts};
 use refusal::{Refusal, Refused};
 use verdict::Answer;
 
-// Lines of so many bytes need one walk. Fixed memory: there is no Vec.
+// Lines of so many bytes need one walk. An array of its own: the walk writes into a slice that is lent.
 const STAGE: usize = 8192;
 
 // A file that was accepted, and the place of its statements.

@@ -141,6 +141,7 @@ fn add_modifier(tree: &[u8], at: usize, total: Option<u64>) -> Past<Option<u64>>
     requires { IsOk (modifier (texts_of tree.now) tree.now at) }
     ensures { Added total (modifier (texts_of tree.now) tree.now at) result }
 {
+    // `ctrl` or `negctrl`, by the case byte, as the matches.
     if tree[at] < 2 {
         let sum = add_control(tree, at + 1, total);
         return Past {

@@ -2,6 +2,7 @@
 #![tactic(auto)]
 
 mod sema_context;
+mod stmt_at;
 mod texts;
 
 ghost use Rattle.std.specs.Prelude.{◌≡◌, suc, ◌+◌, ◌*◌, ◌≤◌};
@@ -13,6 +14,7 @@ ghost use Rattle.context.specs.Values.{kind_of};
 use ast::ClassicalType;
 pub use sema_context::SemaContext;
 use span::Span;
+pub use stmt_at::StmtAt;
 pub use texts::Texts;
 
 // The places of the texts of a tree.
@@ -25,7 +27,7 @@ pub struct Key {
     pub index: Option<u64>,
 }
 
-// The keys that a walk has met, and others behind them. Fixed memory: there is no Vec.
+// The keys that a walk has met, and others behind them. How many there are is state, and goes by value beside them.
 pub type Index = [Key; 256];
 
 // A value that was read, and the place past it.
@@ -58,7 +60,7 @@ pub enum SymbolKind {
 pub fn is_bit(kind: SymbolKind) -> bool
     ensures { result ≡ fits a_bit (kind_of kind) }
 {
-    matches!(kind, SymbolKind::Bit)
+    kind == SymbolKind::Bit
 }
 
 #[derive(Clone, Copy)]
@@ -83,8 +85,8 @@ pub struct FunctionSig {
     pub decl_span: Span,
 }
 
-// How far the listing is: its length, and the diagnostics in it. They are no more than one over the limit, and there are at most 1,024 bytes
-// for each and for the first line. It is passed by value everywhere, so it is 8 bytes.
+// How far the listing is: its length, and the diagnostics in it. They are no more than one over the limit, and there are at
+// most 1,024 bytes for each and for the first line. It is passed by value everywhere, so it is 8 bytes.
 #[derive(Clone, Copy)]
 pub struct Sink {
     pub n: u32,

@@ -46,11 +46,12 @@ use Rattle.declarations.proofs.Targets.{checked-mismatch}
 
 -- the parts of a definition
 pub function_at : (tree : List ℕ) (left at : ℕ) → IsOk (stmt (texts_of tree) left tree at) → get_or tree at 0 ≡ 7 → (k : ℕ) → k ≡ next_of (vec (param (texts_of tree)) tree (at + 3)) → (m : ℕ) → m ≡ next_of (held (texts_of tree) tree (k + 1))
-    → (x : ℕ) → x ≡ number_at 2 tree (at + 1) → (ty : ClassicalType) → ty ≡ type_of (get_or tree k 0) → (sp : Span) → sp ≡ span_at tree m → FunctionAt tree left at (record { name = x; return_type = ty; body = k + 1; span = sp; end = m + 8 })
+    → (x : ℕ) → x ≡ number_at 2 tree (at + 1) → (ty : ClassicalType) → ty ≡ type_of (get_or tree k 0) → (sp : Span) → sp ≡ span_at tree m → FunctionAt tree left at (record { name = x; params = at + 3; return_type = ty; body = k + 1; span = sp; end = m + 8 })
 function_at tree left at h b k k-end m m-end x e ty f sp g =
     record {
       is = rw (e, f, g) (function_def_is (texts_of tree) left tree at h b k k-end m m-end);
       named = rw e (function_def-named (texts_of tree) left tree at h b).below;
+      params_are = refl;
       params = function_def-params (texts_of tree) left tree at h b;
       body = function_def-body (texts_of tree) left tree at h b k k-end;
     }
@@ -102,37 +103,37 @@ says-again : (f : Option FunctionSig) (p : FunctionValue) (x : ℕ) (sp : Span) 
 unfolding defined_says
 says-again f p x sp h = rw (h.is, h.same_span)
 
-module _ (tree : List ℕ) (at : ℕ) (f : Function) {s : Sink} {scratch o : List ℕ} (few : FewParams (functions_of scratch)) where
+module _ (tree : List ℕ) (f : Function) {s : Sink} {scratch o : List ℕ} (few : FewParams (functions_of scratch)) where
   pub defined_again : {r : Sink} {o' : List ℕ} (found : Maybe FunctionValue) (prev : FunctionValue) → found ≡ brief_of (functions_of scratch f.name) → found ≡ Some prev
-      → Emitted (texts_of tree) (error_with_note (Messages.function_already_defined f.name) f.span Messages.first_defined prev.decl_span ∷ []) s o r o' → Defined tree at f s scratch o r scratch o'
+      → Emitted (texts_of tree) (error_with_note (Messages.function_already_defined f.name) f.span Messages.first_defined prev.decl_span ∷ []) s o r o' → Defined tree f s scratch o r scratch o'
   unfolding defined_says
   defined_again found prev e g m =
       let had = brief_some (functions_of scratch f.name) prev (sym g ∙ e) in
-      let same = define_again (functions_of scratch) f.name (params_at tree at) f.return_type f.span had.had had.is in
+      let same = define_again (functions_of scratch) f.name (params_at tree f.params) f.return_type f.span had.had had.is in
       record {
         becomes = λ depth l. record { scopes_are = refl; gates_are = refl; functions_are = sym same; same_length = refl; same_rest = refl };
         few = few;
         emitted = emitted_as m (says-again _ prev f.name f.span had);
       }
 
-  pub defined_new : {scratch' : List ℕ} (found : Maybe FunctionValue) (n : ℕ) → IsOk (vec (param (texts_of tree)) tree at) → found ≡ brief_of (functions_of scratch f.name) → found ≡ None → n ≡ get_or tree at 0
-      → FunctionDefined scratch scratch' f.name (function_in tree (at + 1) n f.return_type f.span) → Defined tree at f s scratch o s scratch' o
+  pub defined_new : {scratch' : List ℕ} (found : Maybe FunctionValue) (n : ℕ) → IsOk (vec (param (texts_of tree)) tree f.params) → found ≡ brief_of (functions_of scratch f.name) → found ≡ None → n ≡ get_or tree f.params 0
+      → FunctionDefined scratch scratch' f.name (function_in tree (f.params + 1) n f.return_type f.span) → Defined tree f s scratch o s scratch' o
   unfolding defined_says
   defined_new found n h e g c b =
       let new = brief_none (functions_of scratch f.name) (sym g ∙ e) in
-      let same = ap (insert (functions_of scratch) f.name) (function_is tree at h n c f.return_type f.span) ∙ sym (define_new (functions_of scratch) f.name (params_at tree at) f.return_type f.span new) in
+      let same = ap (insert (functions_of scratch) f.name) (function_is tree f.params h n c f.return_type f.span) ∙ sym (define_new (functions_of scratch) f.name (params_at tree f.params) f.return_type f.span new) in
       record {
         becomes = λ depth l. functions_as same (b depth l);
-        few = few-after (b 0 (omega arith)) (few-defined (functions_of scratch) tree f.name (at + 1) n f.return_type f.span few (params-few tree at h n c));
+        few = few-after (b 0 (omega arith)) (few-defined (functions_of scratch) tree f.name (f.params + 1) n f.return_type f.span few (params-few tree f.params h n c));
         emitted = silent (rw new);
       }
 
 -- its body
-pub body-checked : {tree : List ℕ} {depth at : ℕ} {f : Function} {s : Sink} {scratch o : List ℕ} {t : Typing} {o₁ : List ℕ} {r : Sink} {scratch' o' : List ℕ} → IsOk (held (texts_of tree) tree f.body)
-    → Becomes scratch scratch' (suc depth) (function_scope (params_at tree at) f.span ∷ scopes_of scratch depth) (gates_of scratch) (functions_of scratch)
+pub body-checked : {tree : List ℕ} {depth : ℕ} {f : Function} {s : Sink} {scratch o : List ℕ} {t : Typing} {o₁ : List ℕ} {r : Sink} {scratch' o' : List ℕ} → IsOk (held (texts_of tree) tree f.body)
+    → Becomes scratch scratch' (suc depth) (function_scope (params_at tree f.params) f.span ∷ scopes_of scratch depth) (gates_of scratch) (functions_of scratch)
     → TypingOf (texts_of tree) (scopes_of scratch' (depth + 1)) (functions_of scratch') (held (texts_of tree) tree f.body) s o t o₁
     → Emitted (texts_of tree) (mismatch (λ actual. error (Messages.function_returns f.name f.return_type actual) (span_at tree (t.next - 8))) f.return_type (typed_of t.typed)) t.sink o₁ r o'
-    → BodyChecked tree depth at f s scratch o r scratch' o'
+    → BodyChecked tree depth f s scratch o r scratch' o'
 unfolding body_says
 body-checked {f = f} h b p m =
     record {
@@ -149,8 +150,8 @@ says_function c x ps ty body sp a b = rw (a, b) (ap (λ ds. ds ++ body_says (fun
     by (some previous) = refl
 
 -- the definition, and then the body
-module _ {tree : List ℕ} {depth at : ℕ} {f : Function} {s : Sink} {scratch o : List ℕ} {s₁ : Sink} {scratch₁ o₁ : List ℕ} {r : Sink} {scratch' o' : List ℕ} (l : depth ≤ 9) (d : Defined tree at f s scratch o s₁ scratch₁ o₁) (b : BodyChecked tree depth at f s₁ scratch₁ o₁ r scratch' o') where
-  both : Becomes scratch scratch' depth (scopes_of scratch depth) (gates_of scratch) (define_function f.name (params_at tree at) f.return_type f.span (functions_of scratch))
+module _ {tree : List ℕ} {depth : ℕ} {f : Function} {s : Sink} {scratch o : List ℕ} {s₁ : Sink} {scratch₁ o₁ : List ℕ} {r : Sink} {scratch' o' : List ℕ} (l : depth ≤ 9) (d : Defined tree f s scratch o s₁ scratch₁ o₁) (b : BodyChecked tree depth f s₁ scratch₁ o₁ r scratch' o') where
+  both : Becomes scratch scratch' depth (scopes_of scratch depth) (gates_of scratch) (define_function f.name (params_at tree f.params) f.return_type f.span (functions_of scratch))
   both =
       let c = d.becomes depth l in
       record {
@@ -162,7 +163,7 @@ module _ {tree : List ℕ} {depth at : ℕ} {f : Function} {s : Sink} {scratch o
       }
 
 pub function_walked : (tree : List ℕ) (ks : List Key) (left : ℕ) (st : State) → left ≤ 8 → {f : Function} {s o : List ℕ} {s₁ : Sink} {scratch₁ o₁ : List ℕ} {r : Sink} {scratch' o' : List ℕ} → Ready tree s st → FunctionAt tree left st.at f
-    → Defined tree (st.at + 3) f st.sink s o s₁ scratch₁ o₁ → BodyChecked tree (9 - left) (st.at + 3) f s₁ scratch₁ o₁ r scratch' o'
+    → Defined tree f st.sink s o s₁ scratch₁ o₁ → BodyChecked tree (9 - left) f s₁ scratch₁ o₁ r scratch' o'
     → StmtWalked tree ks left st s o (state_of f.end r st.marks) scratch' o'
 unfolding analyze_stmt
 function_walked tree ks left st u {f = f} {s = s} ready a d b =

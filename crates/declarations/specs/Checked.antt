@@ -52,18 +52,19 @@ held_at tree at = value_or blank (held (texts_of tree) tree at)
 
 -- the function that is defined at a place
 pub record FunctionAt (tree : List ℕ) (left at : ℕ) (f : Function) : Type 0 where
-  pub is : stmt (texts_of tree) left tree at ≡ ok (Stmt.FunctionDef at f.name (params_at tree (at + 3)) f.return_type (held_at tree f.body) f.span) f.end
+  pub is : stmt (texts_of tree) left tree at ≡ ok (Stmt.FunctionDef at f.name (params_at tree f.params) f.return_type (held_at tree f.body) f.span) f.end
   pub named : f.name < length (texts_of tree)
-  pub params : IsOk (vec (param (texts_of tree)) tree (at + 3))
+  pub params_are : f.params ≡ at + 3
+  pub params : IsOk (vec (param (texts_of tree)) tree f.params)
   pub body : IsOk (held (texts_of tree) tree f.body)
 
--- the scratch and the listing after the definition of f, whose parameters stand at a place
-pub record Defined (tree : List ℕ) (at : ℕ) (f : Function) (s : Sink) (scratch o : List ℕ) (r : Sink) (scratch' o' : List ℕ) : Type 0 where
-  pub becomes : KeepsScopes scratch scratch' (gates_of scratch) (define_function f.name (params_at tree at) f.return_type f.span (functions_of scratch))
+-- the scratch and the listing after the definition of f
+pub record Defined (tree : List ℕ) (f : Function) (s : Sink) (scratch o : List ℕ) (r : Sink) (scratch' o' : List ℕ) : Type 0 where
+  pub becomes : KeepsScopes scratch scratch' (gates_of scratch) (define_function f.name (params_at tree f.params) f.return_type f.span (functions_of scratch))
   pub few : FewParams (functions_of scratch')
   pub emitted : Emitted (texts_of tree) (defined_says (functions_of scratch f.name) f.name f.span) s o r o'
 
 -- the scratch and the listing after its body
-pub record BodyChecked (tree : List ℕ) (depth at : ℕ) (f : Function) (s : Sink) (scratch o : List ℕ) (r : Sink) (scratch' o' : List ℕ) : Type 0 where
-  pub becomes : Becomes scratch scratch' (suc depth) (function_scope (params_at tree at) f.span ∷ scopes_of scratch depth) (gates_of scratch) (functions_of scratch)
-  pub emitted : Emitted (texts_of tree) (body_says (function_scope (params_at tree at) f.span ∷ scopes_of scratch depth) (functions_of scratch) f.name f.return_type (held_at tree f.body)) s o r o'
+pub record BodyChecked (tree : List ℕ) (depth : ℕ) (f : Function) (s : Sink) (scratch o : List ℕ) (r : Sink) (scratch' o' : List ℕ) : Type 0 where
+  pub becomes : Becomes scratch scratch' (suc depth) (function_scope (params_at tree f.params) f.span ∷ scopes_of scratch depth) (gates_of scratch) (functions_of scratch)
+  pub emitted : Emitted (texts_of tree) (body_says (function_scope (params_at tree f.params) f.span ∷ scopes_of scratch depth) (functions_of scratch) f.name f.return_type (held_at tree f.body)) s o r o'

@@ -8,7 +8,7 @@ ghost use Rattle.std.specs.Prelude.{◌≡◌, ◌+◌, ◌-◌, ◌≤◌, ◌<
 ghost use Rattle.std.proofs.Math.Option.{none};
 ghost use Rattle.tree.specs.Ans.{IsOk, next_of};
 ghost use Rattle.tree.specs.Read.{option, vec};
-ghost use Rattle.tree.specs.Stmts.{qualifier, held, param, stmt};
+ghost use Rattle.tree.specs.Stmts.{qualifier, held, param};
 ghost use Rattle.tree.specs.Decode.{texts_of};
 ghost use Rattle.sema.specs.Symbols.{get};
 ghost use Rattle.sema.specs.Stmts.{init_says};
@@ -25,7 +25,7 @@ ghost use Rattle.declarations.specs.Checked.{Checkable, Valued, Declared, init_a
 use accepted::numbers::{span_at, u16_at};
 use accepted::parts::skip_qualifier;
 use ast::ClassicalType;
-use context::{After, FunctionSig, SemaContext, Sink, Texts};
+use context::{After, FunctionSig, SemaContext, Sink, StmtAt, Texts};
 use lines::{Message, Note};
 use parts::{Assignment, Function, assign_op_at, function_at};
 use reports::{
@@ -50,19 +50,12 @@ fn declare(
 }
 
 // The declaration of a qubit or a bit.
-fn register(
-    texts: Texts<'_>,
-    scratch: &mut [u8],
-    out: &mut [u8],
-    left: usize,
-    at: usize,
-    sink: Sink,
-) -> After
-    requires { Passable texts.tree.now scratch.old × IsOk (stmt (texts_of texts.tree.now) left texts.tree.now at) × (left ≤ 8) × (0 < get_or texts.tree.now at 0) × (get_or texts.tree.now at 0 < 3) }
-    ensures { StmtPassed texts.entry.tree.now left at sink scratch.old out.old result scratch.new out.new }
+fn register(here: StmtAt<'_>, scratch: &mut [u8], out: &mut [u8], sink: Sink) -> After
+    requires { Passable here.texts.tree.now scratch.old × (0 < get_or here.texts.tree.now here.at 0) × (get_or here.texts.tree.now here.at 0 < 3) }
+    ensures { StmtPassed here.entry.texts.tree.now here.entry.left here.entry.at sink scratch.old out.old result scratch.new out.new }
 {
-    let d = scopes::declaration_at(texts.tree, at, left);
-    let s = declare(texts, scratch, out, 9 - left, d, sink);
+    let d = scopes::declaration_at(here.texts.tree, here.at, here.left);
+    let s = declare(here.texts, scratch, out, 9 - here.left, d, sink);
     After {
         next: d.end,
         sink: s,
@@ -70,32 +63,18 @@ fn register(
 }
 
 // Each case of a statement has its function: a qubit's declaration and a bit's do the same.
-pub fn qubit_decl(
-    texts: Texts<'_>,
-    scratch: &mut [u8],
-    out: &mut [u8],
-    left: usize,
-    at: usize,
-    sink: Sink,
-) -> After
-    requires { Passable texts.tree.now scratch.old × IsOk (stmt (texts_of texts.tree.now) left texts.tree.now at) × (left ≤ 8) × (get_or texts.tree.now at 0 ≡ 1) }
-    ensures { StmtPassed texts.entry.tree.now left at sink scratch.old out.old result scratch.new out.new }
+pub fn qubit_decl(here: StmtAt<'_>, scratch: &mut [u8], out: &mut [u8], sink: Sink) -> After
+    requires { Passable here.texts.tree.now scratch.old × (get_or here.texts.tree.now here.at 0 ≡ 1) }
+    ensures { StmtPassed here.entry.texts.tree.now here.entry.left here.entry.at sink scratch.old out.old result scratch.new out.new }
 {
-    register(texts, scratch, out, left, at, sink)
+    register(here, scratch, out, sink)
 }
 
-pub fn bit_decl(
-    texts: Texts<'_>,
-    scratch: &mut [u8],
-    out: &mut [u8],
-    left: usize,
-    at: usize,
-    sink: Sink,
-) -> After
-    requires { Passable texts.tree.now scratch.old × IsOk (stmt (texts_of texts.tree.now) left texts.tree.now at) × (left ≤ 8) × (get_or texts.tree.now at 0 ≡ 2) }
-    ensures { StmtPassed texts.entry.tree.now left at sink scratch.old out.old result scratch.new out.new }
+pub fn bit_decl(here: StmtAt<'_>, scratch: &mut [u8], out: &mut [u8], sink: Sink) -> After
+    requires { Passable here.texts.tree.now scratch.old × (get_or here.texts.tree.now here.at 0 ≡ 2) }
+    ensures { StmtPassed here.entry.texts.tree.now here.entry.left here.entry.at sink scratch.old out.old result scratch.new out.new }
 {
-    register(texts, scratch, out, left, at, sink)
+    register(here, scratch, out, sink)
 }
 
 // The initializer of x behind its byte, in the scopes after the declaration.
@@ -122,47 +101,35 @@ fn check_init(
     check_type(sema.texts, out, ty, actual, message, t.next, t.sink)
 }
 
-// What is said of the classical declaration d at `at` after its name: of its qualifier and of its initializer.
+// What is said of the classical declaration d after its name: of its qualifier and of its initializer.
 #[tactic(auto, using(crate::proofs::Classical::classical))]
 fn check_classical(
-    sema: SemaContext<'_>,
+    here: StmtAt<'_>,
+    scratch: &[u8],
     out: &mut [u8],
-    left: usize,
-    at: usize,
     d: Declaration,
     sink: Sink,
 ) -> Sink
-    requires { (d.name < length (texts sema)) × IsOk (stmt (texts sema) left sema.texts.tree.now at) × (get_or sema.texts.tree.now at 0 ≡ 3) }
-    ensures { Emitted (texts sema.entry) (classical_rest (scopes sema.entry) (functions sema.entry) (value_or none (option qualifier sema.entry.texts.tree.now (at + 1))) (type_of (get_or sema.entry.texts.tree.now (next_of (option qualifier sema.entry.texts.tree.now (at + 1))) 0)) d.name (init_at sema.entry.texts.tree.now (next_of (option qualifier sema.entry.texts.tree.now (at + 1)) + 3)) d.symbol.decl_span) sink out.old result out.new }
+    requires { (65536 ≤ length scratch.now) × (d.name < length (texts_of here.texts.tree.now)) × (get_or here.texts.tree.now here.at 0 ≡ 3) }
+    ensures { Emitted (texts_of here.entry.texts.tree.now) (classical_rest (scopes_of scratch.now (9 - here.entry.left)) (functions_of scratch.now) (value_or none (option qualifier here.entry.texts.tree.now (here.entry.at + 1))) (type_of (get_or here.entry.texts.tree.now (next_of (option qualifier here.entry.texts.tree.now (here.entry.at + 1))) 0)) d.name (init_at here.entry.texts.tree.now (next_of (option qualifier here.entry.texts.tree.now (here.entry.at + 1)) + 3)) d.symbol.decl_span) sink out.old result out.new }
 {
-    let q = qualifier_at(sema.texts.tree, at + 1);
-    let k = skip_qualifier(sema.texts.tree, at + 1);
-    let init = sema.texts.tree[k + 3] != 0;
-    let s = check_qualifier(sema.texts, out, q, init, d.name, d.symbol.decl_span, sink);
-    let ty = type_at(sema.texts.tree, k);
-    check_init(sema, out, k + 3, d.name, ty, s)
+    let texts = here.texts;
+    let q = qualifier_at(texts.tree, here.at + 1);
+    let k = skip_qualifier(texts.tree, here.at + 1);
+    let init = texts.tree[k + 3] != 0;
+    let s = check_qualifier(texts, out, q, init, d.name, d.symbol.decl_span, sink);
+    let ty = type_at(texts.tree, k);
+    check_init(here.context(scratch), out, k + 3, d.name, ty, s)
 }
 
 // The declaration of a classical variable: its name, its qualifier, its initializer.
-pub fn classical_decl(
-    texts: Texts<'_>,
-    scratch: &mut [u8],
-    out: &mut [u8],
-    left: usize,
-    at: usize,
-    sink: Sink,
-) -> After
-    requires { Passable texts.tree.now scratch.old × IsOk (stmt (texts_of texts.tree.now) left texts.tree.now at) × (left ≤ 8) × (get_or texts.tree.now at 0 ≡ 3) }
-    ensures { StmtPassed texts.entry.tree.now left at sink scratch.old out.old result scratch.new out.new }
+pub fn classical_decl(here: StmtAt<'_>, scratch: &mut [u8], out: &mut [u8], sink: Sink) -> After
+    requires { Passable here.texts.tree.now scratch.old × (get_or here.texts.tree.now here.at 0 ≡ 3) }
+    ensures { StmtPassed here.entry.texts.tree.now here.entry.left here.entry.at sink scratch.old out.old result scratch.new out.new }
 {
-    let d = scopes::declaration_at(texts.tree, at, left);
-    let s = declare(texts, scratch, out, 9 - left, d, sink);
-    let sema = SemaContext {
-        texts,
-        scratch,
-        depth: 9 - left,
-    };
-    let r = check_classical(sema, out, left, at, d, s);
+    let d = scopes::declaration_at(here.texts.tree, here.at, here.left);
+    let s = declare(here.texts, scratch, out, 9 - here.left, d, sink);
+    let r = check_classical(here, scratch, out, d, s);
     After {
         next: d.end,
         sink: r,
@@ -189,28 +156,17 @@ fn check_target(sema: SemaContext<'_>, out: &mut [u8], a: Assignment) -> Sink
 
 // The value, and then the target. The scratch stays as it is.
 #[tactic(auto, using(crate::proofs::Targets::assignments))]
-pub fn assignment(
-    texts: Texts<'_>,
-    scratch: &[u8],
-    out: &mut [u8],
-    left: usize,
-    at: usize,
-    sink: Sink,
-) -> After
-    requires { Passable texts.tree.now scratch.now × IsOk (stmt (texts_of texts.tree.now) left texts.tree.now at) × (left ≤ 8) × (get_or texts.tree.now at 0 ≡ 4) }
-    ensures { StmtPassed texts.entry.tree.now left at sink scratch.now out.old result scratch.now out.new }
+pub fn assignment(here: StmtAt<'_>, scratch: &[u8], out: &mut [u8], sink: Sink) -> After
+    requires { Passable here.texts.tree.now scratch.now × (get_or here.texts.tree.now here.at 0 ≡ 4) }
+    ensures { StmtPassed here.entry.texts.tree.now here.entry.left here.entry.at sink scratch.now out.old result scratch.now out.new }
 {
-    let sema = SemaContext {
-        texts,
-        scratch,
-        depth: 9 - left,
-    };
-    let value = typing::check_expr(sema, out, at + 4, 32, sink);
+    let sema = here.context(scratch);
+    let value = typing::check_expr(sema, out, here.at + 4, 32, sink);
     let a = Assignment {
-        name: u16_at(texts.tree, at + 1),
-        op: assign_op_at(texts.tree, at + 3),
+        name: u16_at(here.texts.tree, here.at + 1),
+        op: assign_op_at(here.texts.tree, here.at + 3),
         value,
-        span: span_at(texts.tree, value.next),
+        span: span_at(here.texts.tree, value.next),
     };
     let s = check_target(sema, out, a);
     After {
@@ -219,18 +175,11 @@ pub fn assignment(
     }
 }
 
-// The function f, whose parameters stand at `at`; of two of one name the first stays.
+// The function f; of two of one name the first stays.
 #[tactic(auto, using(crate::proofs::Functions::parameters))]
-fn define(
-    texts: Texts<'_>,
-    scratch: &mut [u8],
-    out: &mut [u8],
-    at: usize,
-    f: Function,
-    sink: Sink,
-) -> Sink
-    requires { (65536 ≤ length scratch.old) × FewParams (functions_of scratch.old) × (f.name < length (texts_of texts.tree.now)) × IsOk (vec (param (texts_of texts.tree.now)) texts.tree.now at) }
-    ensures { Defined texts.entry.tree.now at f sink scratch.old out.old result scratch.new out.new }
+fn define(texts: Texts<'_>, scratch: &mut [u8], out: &mut [u8], f: Function, sink: Sink) -> Sink
+    requires { (65536 ≤ length scratch.old) × FewParams (functions_of scratch.old) × (f.name < length (texts_of texts.tree.now)) × IsOk (vec (param (texts_of texts.tree.now)) texts.tree.now f.params) }
+    ensures { Defined texts.entry.tree.now f sink scratch.old out.old result scratch.new out.new }
 {
     if let Some(prev) = tables::function(scratch, f.name) {
         return report_with_note(
@@ -244,28 +193,27 @@ fn define(
         );
     }
     let sig = FunctionSig {
-        param_count: texts.tree[at],
+        param_count: texts.tree[f.params],
         return_type: f.return_type,
         decl_span: f.span,
     };
-    tables::define_function(scratch, texts.tree, f.name, at + 1, sig);
+    tables::define_function(scratch, texts.tree, f.name, f.params + 1, sig);
     sink
 }
 
-// The body of f in a scope with its parameters, which stand at `at`.
+// The body of f in a scope with its parameters.
 fn check_body(
     texts: Texts<'_>,
     scratch: &mut [u8],
     out: &mut [u8],
     depth: usize,
-    at: usize,
     f: Function,
     sink: Sink,
 ) -> Sink
-    requires { Checkable scratch.old depth × (depth < 9) × (f.name < length (texts_of texts.tree.now)) × IsOk (vec (param (texts_of texts.tree.now)) texts.tree.now at) × IsOk (held (texts_of texts.tree.now) texts.tree.now f.body) }
-    ensures { BodyChecked texts.entry.tree.now depth at f sink scratch.old out.old result scratch.new out.new }
+    requires { Checkable scratch.old depth × (depth < 9) × (f.name < length (texts_of texts.tree.now)) × IsOk (vec (param (texts_of texts.tree.now)) texts.tree.now f.params) × IsOk (held (texts_of texts.tree.now) texts.tree.now f.body) }
+    ensures { BodyChecked texts.entry.tree.now depth f sink scratch.old out.old result scratch.new out.new }
 {
-    scopes::enter_function(texts.tree, scratch, depth, at, f.span);
+    scopes::enter_function(texts.tree, scratch, depth, f.params, f.span);
     let sema = SemaContext {
         texts,
         scratch,
@@ -281,20 +229,13 @@ fn check_body(
 
 // The function is known in its own body. Its scope is left by counting one less.
 #[tactic(auto, using(crate::proofs::Functions::function_defs))]
-pub fn function_def(
-    texts: Texts<'_>,
-    scratch: &mut [u8],
-    out: &mut [u8],
-    left: usize,
-    at: usize,
-    sink: Sink,
-) -> After
-    requires { Passable texts.tree.now scratch.old × IsOk (stmt (texts_of texts.tree.now) left texts.tree.now at) × (left ≤ 8) × (get_or texts.tree.now at 0 ≡ 7) }
-    ensures { StmtPassed texts.entry.tree.now left at sink scratch.old out.old result scratch.new out.new }
+pub fn function_def(here: StmtAt<'_>, scratch: &mut [u8], out: &mut [u8], sink: Sink) -> After
+    requires { Passable here.texts.tree.now scratch.old × (get_or here.texts.tree.now here.at 0 ≡ 7) }
+    ensures { StmtPassed here.entry.texts.tree.now here.entry.left here.entry.at sink scratch.old out.old result scratch.new out.new }
 {
-    let f = function_at(texts.tree, at, left);
-    let s = define(texts, scratch, out, at + 3, f, sink);
-    let r = check_body(texts, scratch, out, 9 - left, at + 3, f, s);
+    let f = function_at(here);
+    let s = define(here.texts, scratch, out, f, sink);
+    let r = check_body(here.texts, scratch, out, 9 - here.left, f, s);
     After {
         next: f.end,
         sink: r,

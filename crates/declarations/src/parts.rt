@@ -1,8 +1,5 @@
 // The parts of an assignment and of a function definition, as their bytes say.
 ghost use Rattle.std.specs.Prelude.{◌≡◌, ◌<◌, length, get_or};
-ghost use Rattle.tree.specs.Ans.{IsOk};
-ghost use Rattle.tree.specs.Stmts.{stmt};
-ghost use Rattle.tree.specs.Decode.{texts_of};
 ghost use Rattle.accepted.specs.Cases.{assign_op_of};
 ghost use Rattle.declarations.specs.Checked.{FunctionAt};
 
@@ -10,14 +7,15 @@ use accepted::exprs::skip_expr;
 use accepted::numbers::{span_at, u16_at};
 use accepted::parts::skip_params;
 use ast::{AssignOp, ClassicalType};
-use context::Typing;
+use context::{StmtAt, Typing};
 use scopes::type_at;
 use span::Span;
 
-// A function definition: `body` is the place of its expression, `end` the place past the statement.
+// A function definition: the places of its parameters, of its expression (`body`), and past the statement (`end`).
 #[derive(Clone, Copy)]
 pub struct Function {
     pub name: usize,
+    pub params: usize,
     pub return_type: ClassicalType,
     pub body: usize,
     pub span: Span,
@@ -47,10 +45,12 @@ pub fn assign_op_at(tree: &[u8], at: usize) -> AssignOp
 }
 
 #[tactic(auto, using(crate::proofs::Functions::functions))]
-pub fn function_at(tree: &[u8], at: usize, left: usize) -> Function
-    requires { IsOk (stmt (texts_of tree.now) left tree.now at) × (get_or tree.now at 0 ≡ 7) }
-    ensures { FunctionAt tree.now left at result }
+pub fn function_at(here: StmtAt<'_>) -> Function
+    requires { get_or here.texts.tree.now here.at 0 ≡ 7 }
+    ensures { FunctionAt here.entry.texts.tree.now here.entry.left here.entry.at result }
 {
+    let tree = here.texts.tree;
+    let at = here.at;
     let k = skip_params(tree, at + 3);
     let m = skip_expr(tree, k + 1, 32);
     let name = u16_at(tree, at + 1);
@@ -58,6 +58,7 @@ pub fn function_at(tree: &[u8], at: usize, left: usize) -> Function
     let span = span_at(tree, m);
     Function {
         name,
+        params: at + 3,
         return_type,
         body: k + 1,
         span,

@@ -1,5 +1,5 @@
 -- A name of a known length, letter by letter, beside the gates of that length. Assumes nothing.
-use Rattle.std.proofs.Common.{◌≡◌, ℕ, zero, suc, ◌+◌, ◌<◌, List, [], ◌∷◌, Bool, true, false, cond, ◌&&◌, map, length, get_or, drop, eqb, Some, None, refl, ap, ◌∙◌, arith}
+use Rattle.std.proofs.Common.{◌≡◌, ℕ, zero, suc, ◌+◌, ◌<◌, List, [], ◌∷◌, Bool, true, false, cond, ◌&&◌, map, length, get_or, drop, eqb, None, refl, ap, ◌∙◌, arith}
 use borrow.Author.Tests.{eq-eqb, ne_eqb, eqb-false}
 use Rattle.std.proofs.Math.ListN.{length-map}
 use Rattle.std.specs.Char.{to_ascii_lowercase}

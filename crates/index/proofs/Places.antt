@@ -84,7 +84,7 @@ more_begins (suc n) earlier s at h =
 -- i of n texts are placed, and the others are read from `at` on
 pub record Placing (s index : List ℕ) (n i at : ℕ) : Type 0 where
   pub fine : IsOk (texts s 0)
-  pub room : n ≤ length index
+  pub room : length index ≡ n
   pub count : length (take i (texts_of s)) ≡ i
   pub same : texts s 0 ≡ more_texts (n - i) (take i (texts_of s)) s at
   pub each : (x : ℕ) → x < i → TextAt s index x
@@ -101,7 +101,7 @@ module _ (s : List ℕ) (h : IsOk (decode s)) where
   pub few_placed : (n : ℕ) → n ≡ number_at 2 s 0 → n ≤ texts_limit
   few_placed n e = rw e (leb-true _ _ (checked _ _ _ _ counted-goes))
 
-  pub placing_start : (index : List ℕ) (n : ℕ) → n ≤ length index → n ≡ number_at 2 s 0 → Placing s index n 0 2
+  pub placing_start : (index : List ℕ) (n : ℕ) → length index ≡ n → n ≡ number_at 2 s 0 → Placing s index n 0 2
   placing_start index n l e =
       let g = counted-goes in
       let z : n - 0 ≡ n = omega arith in

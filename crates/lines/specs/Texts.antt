@@ -4,17 +4,16 @@ use Rattle.text.specs.Decimal.{decimal}
 use Rattle.types.specs.Names as types
 use Rattle.span.specs.declared.Span.{Span}
 use Rattle.ast.specs.Tree.{Text}
-use Rattle.sema.specs.Messages.{name_at, kind_name, expected_name, context_name}
+use Rattle.sema.specs.Messages.{name_at, kind_name, expected_name}
 use Rattle.context.specs.Values.{kind_of}
 use Rattle.lines.specs.declared.pieces.Value.{Value}
-use Rattle.lines.specs.Values.{expected_of, place_of}
+use Rattle.lines.specs.Values.{expected_of}
 
 abbrev pub value_text : List Text → Value → List ℕ
 value_text t (Value.Name x) = name_at t x
 value_text t (Value.TypeName ty) = types.name_of ty
 value_text t (Value.KindName k) = kind_name (kind_of k)
 value_text t (Value.ExpectedName e) = expected_name (expected_of e)
-value_text t (Value.PlaceName p) = context_name (place_of p)
 value_text t (Value.Number v) = decimal v
 value_text t (Value.Sum a b) = decimal (a + b)
 
@@ -23,7 +22,6 @@ value_room (Value.Name x) = 64
 value_room (Value.TypeName ty) = 16
 value_room (Value.KindName k) = 16
 value_room (Value.ExpectedName e) = 16
-value_room (Value.PlaceName p) = 32
 value_room (Value.Number v) = 20
 value_room (Value.Sum a b) = 39
 
@@ -33,7 +31,6 @@ Named n (Value.Name x) = x < n
 Named n (Value.TypeName ty) = Unit {0}
 Named n (Value.KindName k) = Unit {0}
 Named n (Value.ExpectedName e) = Unit {0}
-Named n (Value.PlaceName p) = Unit {0}
 Named n (Value.Number v) = Unit {0}
 Named n (Value.Sum a b) = Unit {0}
 

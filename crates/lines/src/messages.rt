@@ -6,8 +6,9 @@ ghost use Rattle.context.specs.Values.{operand_of};
 ghost use Rattle.lines.specs.Stored.{Said};
 ghost use Rattle.lines.specs.Values.{message_of, note_of, name_in, name_in_note, Below};
 
-use super::pieces::Value::{ExpectedName, KindName, Name, Number, PlaceName, Sum, TypeName};
+use super::pieces::Value::{ExpectedName, KindName, Name, Number, Sum, TypeName};
 use super::pieces::{copy, decimal, name_of, put, say};
+use super::words::place_name;
 use super::{Message, Note};
 use context::{GateOperand, Texts};
 
@@ -229,7 +230,7 @@ pub(crate) fn store_message(texts: &Texts, out: &mut [u8], n: usize, message: Me
         ),
         Message::PowerNumeric => copy(out, n, b"power modifier argument must be numeric"),
         Message::MustHaveType(place, e, a) => {
-            let p = say(texts, out, n, b"", PlaceName(place));
+            let p = copy(out, n, place_name(place));
             let q = say(texts, out, p, b" must have type ", TypeName(e));
             say(texts, out, q, b", found ", TypeName(a))
         }

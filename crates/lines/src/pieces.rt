@@ -1,4 +1,6 @@
-// The pieces of lines, and their storing.
+// The pieces of lines, and their storing. A piece is a part of the tree or of the wording, returned and not formatted: no Display.
+// The place is state: it goes by value beside the listing, which is lent. Bytes past the listing's end are counted and not stored;
+// write! would end there with an error.
 ghost use Rattle.std.specs.Prelude.{◌≤◌, ◌<◌, ◌+◌, ◌++◌, ◌∷◌, [], length};
 ghost use Rattle.text.specs.Decimal.{decimal};
 ghost use Rattle.tree.specs.Decode.{texts_of};
@@ -7,7 +9,7 @@ ghost use Rattle.lines.specs.Stored.{Wrote, Said, Shown};
 ghost use Rattle.lines.specs.Readable.{Readable};
 ghost use Rattle.lines.specs.Texts.{Named, value_text, value_room};
 
-use super::{Expected, Place, words};
+use super::{Expected, words};
 use ast::ClassicalType;
 use context::{Places, SymbolKind, Texts};
 use itoa::Buffer;
@@ -20,13 +22,12 @@ pub(crate) enum Value {
     TypeName(ClassicalType),
     KindName(SymbolKind),
     ExpectedName(Expected),
-    PlaceName(Place),
     Number(u64),
     // The exact sum of two numbers.
     Sum(u64, u64),
 }
 
-// The text with a number, as a part of the tree.
+// The text with a number, as a part of the tree. `Readable` asks for the place of one text, a Texts for those of all.
 #[tactic(auto, unfolding(sema::specs::Messages::name_at))]
 pub fn name_of<'a>(tree: &'a [u8], places: &Places, x: usize) -> &'a [u8]
     requires { Readable tree.now places.now x }
@@ -96,7 +97,6 @@ fn piece<'a: 'b, 'b>(texts: &Texts<'a>, value: Value, digits: &'b mut Buffer) ->
         Value::TypeName(ty) => words::type_name(ty),
         Value::KindName(kind) => words::kind_name(kind),
         Value::ExpectedName(expected) => words::expected_name(expected),
-        Value::PlaceName(place) => words::place_name(place),
         Value::Number(v) => number(v, digits),
         Value::Sum(a, b) => digits.format(u128::from(a) + u128::from(b)).as_bytes(),
     }

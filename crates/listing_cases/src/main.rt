@@ -2,22 +2,26 @@
 #![tactic(auto)]
 
 use std::io;
+use std::io::Write;
 
-// More cases than the input has. The loop has a bound, since nothing says that an input ends.
-const CASES: usize = 10000;
+fn list<W: Write>(
+    out: &mut W,
+    tree: &[u8],
+    scratch: &mut [u8],
+    listing: &mut [u8],
+) -> io::Result<()> {
+    let answer = checker::check(tree, scratch, listing);
+    output::print(out, answer, listing)
+}
 
 fn main(rt: HostRuntime) -> io::Result<()> {
     let mut space = [0u8; 65536];
     let mut scratch = [0u8; 65536];
     let mut listing = [0u8; 65536];
-    let mut input = rt.stdin();
     let mut out = rt.stdout();
-    for _ in 0..CASES {
-        let Some(n) = cases::next(&mut input, &mut space)? else {
-            break;
-        };
-        let answer = checker::check(&space[..n], &mut scratch, &mut listing);
-        output::print(&mut out, answer, &listing)?;
-    }
-    Ok(())
+    cases::each(
+        &mut rt.stdin(),
+        &mut space,
+        |tree| list(&mut out, tree, &mut scratch, &mut listing),
+    )
 }

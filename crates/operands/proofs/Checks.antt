@@ -18,7 +18,7 @@ use Rattle.lines.specs.declared.Message.{Message}
 use Rattle.lines.specs.declared.Note.{Note}
 use Rattle.lines.specs.declared.Diagnostic.{Diagnostic}
 use Rattle.lines.specs.Values.{expected_of, error_of, error_with_note_of, Reported}
-use Rattle.promises.specs.Emitted.{Emitted, error-fits, noted-fits, emitted-none, emitted_report, emitted_then, emitted_as}
+use Rattle.promises.specs.Emitted.{Emitted, emitted-none, emitted_report, emitted_then, emitted_as}
 use Rattle.operands.specs.declared.bounds.Fault.{Fault}
 use Rattle.operands.specs.Says.{fault_of, kind_says, index_fault_says, slice_fault_says, nothing, check-none, check-some}
 
@@ -36,9 +36,6 @@ pub nothing-both : (xs ys : List Messages.Diagnostic) → nothing (xs ++ ys) ≡
 unfolding nothing
 nothing-both [] ys = refl
 nothing-both (d ∷ ds) ys = refl
-
--- what is reported names texts that are there
-pub ruleset reporting = (error-fits, noted-fits)
 
 -- what the checks of index, slice and bounds say
 module _ (t : List Text) (op : Operand) (sym : SymbolValue) (s : Sink) (o : List ℕ) (r : Sink) (o' : List ℕ) where

@@ -11,48 +11,11 @@ use crate::kinds::{fits, indexes_wire};
 use context::{GateOperand, SemaContext, Sink, Symbol};
 use lines::{Expected, Message, Note, error, error_with_note};
 
-// An error of an operand, with a note where its symbol is declared.
-fn report_declared(
-    sema: SemaContext<'_>,
-    out: &mut [u8],
-    op: GateOperand,
-    symbol: Symbol,
-    message: Message,
-    note: Note,
-    sink: Sink,
-) -> Sink
-    requires { Fits (length (texts sema)) (error_with_note_of message op.span note symbol.decl_span) }
-    ensures { Reported (texts sema.entry) (error_with_note_of message op.span note symbol.decl_span) sink out.old result out.new }
-{
-    let d = error_with_note(message, op.span, note, symbol.decl_span);
-    lines::report(out, sink, sema.texts, d)
-}
-
-#[tactic(auto, using(crate::proofs::Checks::kind_fits))]
-pub fn check_kind(
-    sema: SemaContext<'_>,
-    out: &mut [u8],
-    op: GateOperand,
-    symbol: Symbol,
-    expected: Expected,
-    sink: Sink,
-) -> Sink
-    requires { op.name < length (texts sema) }
-    ensures { Emitted (texts sema.entry) (kind_says (operand_of op) (symbol_of symbol) (expected_of expected)) sink out.old result out.new }
-{
-    let kind = symbol.kind;
-    if fits(expected, kind) {
-        return sink;
-    }
-    report_declared(
-        sema,
-        out,
-        op,
-        symbol,
-        Message::ExpectedKind(expected, op.name, kind),
-        Note::DeclaredAs(op.name, kind),
-        sink,
-    )
+// An operand, and the symbol that declares its name.
+#[derive(Clone, Copy)]
+pub struct Declared {
+    pub op: GateOperand,
+    pub symbol: Symbol,
 }
 
 // What is wrong with an index, or with both ends of a slice: the symbol has no size, or they are not below it.
@@ -83,109 +46,124 @@ fn find_fault<T: Copy, F: Fn(T, u64) -> bool>(
     }
 }
 
-fn index_fault(op: GateOperand, symbol: Symbol) -> Option<Fault<u64>>
-    ensures { index_fault_says (operand_of op) (symbol_of symbol) result ≡ index_says (operand_of op) (symbol_of symbol) (number_of op.index) (number_of symbol.size) }
-{
-    find_fault(op.index, symbol.size, |i, n| i < n)
-}
+impl Declared {
+    // An error of the operand, with a note where its symbol is declared.
+    fn report(
+        self,
+        sema: SemaContext<'_>,
+        out: &mut [u8],
+        message: Message,
+        note: Note,
+        sink: Sink,
+    ) -> Sink
+        requires { Fits (length (texts sema)) (error_with_note_of message self.op.span note self.symbol.decl_span) }
+        ensures { Reported (texts sema.entry) (error_with_note_of message self.op.span note self.symbol.decl_span) sink out.old result out.new }
+    {
+        let d = error_with_note(message, self.op.span, note, self.symbol.decl_span);
+        lines::report(out, sink, sema.texts, d)
+    }
 
-fn slice_fault(op: GateOperand, symbol: Symbol) -> Option<Fault<(u64, u64)>>
-    ensures { slice_fault_says (operand_of op) (symbol_of symbol) result ≡ slice_says (operand_of op) (symbol_of symbol) (ends_of op.slice) (number_of symbol.size) }
-{
-    find_fault(op.slice, symbol.size, |(a, b), n| a <= b && b < n)
-}
-
-fn check_index(
-    sema: SemaContext<'_>,
-    out: &mut [u8],
-    op: GateOperand,
-    symbol: Symbol,
-    sink: Sink,
-) -> Sink
-    requires { op.name < length (texts sema) }
-    ensures { Emitted (texts sema.entry) (index_says (operand_of op) (symbol_of symbol) (number_of op.index) (number_of symbol.size)) sink out.old result out.new }
-{
-    match index_fault(op, symbol) {
-        None => sink,
-        Some(Fault::WithoutSize) => report_declared(
+    #[tactic(auto, using(crate::proofs::Checks::kind_fits))]
+    pub fn check_kind(
+        self,
+        sema: SemaContext<'_>,
+        out: &mut [u8],
+        expected: Expected,
+        sink: Sink,
+    ) -> Sink
+        requires { self.op.name < length (texts sema) }
+        ensures { Emitted (texts sema.entry) (kind_says (operand_of self.op) (symbol_of self.symbol) (expected_of expected)) sink out.old result out.new }
+    {
+        let kind = self.symbol.kind;
+        if fits(expected, kind) {
+            return sink;
+        }
+        let x = self.op.name;
+        self.report(
             sema,
             out,
-            op,
-            symbol,
-            Message::CannotIndex(op.name),
-            Note::DeclaredWithoutSize(op.name),
+            Message::ExpectedKind(expected, x, kind),
+            Note::DeclaredAs(x, kind),
             sink,
-        ),
-        Some(Fault::OutOfBounds(i, n)) => report_declared(
-            sema,
-            out,
-            op,
-            symbol,
-            Message::IndexOutOfBounds(i, op.name, n),
-            Note::DeclaredWithSize(op.name, n),
-            sink,
-        ),
+        )
     }
-}
 
-fn check_slice(
-    sema: SemaContext<'_>,
-    out: &mut [u8],
-    op: GateOperand,
-    symbol: Symbol,
-    sink: Sink,
-) -> Sink
-    requires { op.name < length (texts sema) }
-    ensures { Emitted (texts sema.entry) (slice_says (operand_of op) (symbol_of symbol) (ends_of op.slice) (number_of symbol.size)) sink out.old result out.new }
-{
-    match slice_fault(op, symbol) {
-        None => sink,
-        Some(Fault::WithoutSize) => lines::report(
-            out,
-            sink,
-            sema.texts,
-            error(Message::CannotSlice(op.name), op.span),
-        ),
-        Some(Fault::OutOfBounds((a, b), n)) => report_declared(
-            sema,
-            out,
-            op,
-            symbol,
-            Message::SliceOutOfBounds(a, b, op.name, n),
-            Note::DeclaredWithSize(op.name, n),
-            sink,
-        ),
+    fn index_fault(self) -> Option<Fault<u64>>
+        ensures { index_fault_says (operand_of self.op) (symbol_of self.symbol) result ≡ index_says (operand_of self.op) (symbol_of self.symbol) (number_of self.op.index) (number_of self.symbol.size) }
+    {
+        find_fault(self.op.index, self.symbol.size, |i, n| i < n)
     }
-}
 
-// Has check_bounds nothing to say?
-pub fn keeps_bounds(op: GateOperand, symbol: Symbol) -> bool
-    ensures { result ≡ nothing (bounds_say (operand_of op) (symbol_of symbol)) }
-{
-    !indexes_wire(op, symbol.kind)
-        && index_fault(op, symbol).is_none()
-        && slice_fault(op, symbol).is_none()
-}
-
-// A gate qubit must not be indexed; else the bounds of index and slice.
-pub fn check_bounds(
-    sema: SemaContext<'_>,
-    out: &mut [u8],
-    op: GateOperand,
-    symbol: Symbol,
-    sink: Sink,
-) -> Sink
-    requires { op.name < length (texts sema) }
-    ensures { Emitted (texts sema.entry) (bounds_say (operand_of op) (symbol_of symbol)) sink out.old result out.new }
-{
-    if indexes_wire(op, symbol.kind) {
-        return lines::report(
-            out,
-            sink,
-            sema.texts,
-            error(Message::CannotIndexGateQubit(op.name), op.span),
-        );
+    fn slice_fault(self) -> Option<Fault<(u64, u64)>>
+        ensures { slice_fault_says (operand_of self.op) (symbol_of self.symbol) result ≡ slice_says (operand_of self.op) (symbol_of self.symbol) (ends_of self.op.slice) (number_of self.symbol.size) }
+    {
+        find_fault(self.op.slice, self.symbol.size, |(a, b), n| a <= b && b < n)
     }
-    let s = check_index(sema, out, op, symbol, sink);
-    check_slice(sema, out, op, symbol, s)
+
+    fn check_index(self, sema: SemaContext<'_>, out: &mut [u8], sink: Sink) -> Sink
+        requires { self.op.name < length (texts sema) }
+        ensures { Emitted (texts sema.entry) (index_says (operand_of self.op) (symbol_of self.symbol) (number_of self.op.index) (number_of self.symbol.size)) sink out.old result out.new }
+    {
+        let x = self.op.name;
+        match self.index_fault() {
+            None => sink,
+            Some(Fault::WithoutSize) => self.report(
+                sema,
+                out,
+                Message::CannotIndex(x),
+                Note::DeclaredWithoutSize(x),
+                sink,
+            ),
+            Some(Fault::OutOfBounds(i, n)) => self.report(
+                sema,
+                out,
+                Message::IndexOutOfBounds(i, x, n),
+                Note::DeclaredWithSize(x, n),
+                sink,
+            ),
+        }
+    }
+
+    fn check_slice(self, sema: SemaContext<'_>, out: &mut [u8], sink: Sink) -> Sink
+        requires { self.op.name < length (texts sema) }
+        ensures { Emitted (texts sema.entry) (slice_says (operand_of self.op) (symbol_of self.symbol) (ends_of self.op.slice) (number_of self.symbol.size)) sink out.old result out.new }
+    {
+        let x = self.op.name;
+        match self.slice_fault() {
+            None => sink,
+            Some(Fault::WithoutSize) => {
+                let d = error(Message::CannotSlice(x), self.op.span);
+                lines::report(out, sink, sema.texts, d)
+            }
+            Some(Fault::OutOfBounds((a, b), n)) => self.report(
+                sema,
+                out,
+                Message::SliceOutOfBounds(a, b, x, n),
+                Note::DeclaredWithSize(x, n),
+                sink,
+            ),
+        }
+    }
+
+    // Has check_bounds nothing to say?
+    pub fn keeps_bounds(self) -> bool
+        ensures { result ≡ nothing (bounds_say (operand_of self.op) (symbol_of self.symbol)) }
+    {
+        !indexes_wire(self.op, self.symbol.kind)
+            && self.index_fault().is_none()
+            && self.slice_fault().is_none()
+    }
+
+    // A gate qubit must not be indexed; else the bounds of index and slice.
+    pub fn check_bounds(self, sema: SemaContext<'_>, out: &mut [u8], sink: Sink) -> Sink
+        requires { self.op.name < length (texts sema) }
+        ensures { Emitted (texts sema.entry) (bounds_say (operand_of self.op) (symbol_of self.symbol)) sink out.old result out.new }
+    {
+        if indexes_wire(self.op, self.symbol.kind) {
+            let d = error(Message::CannotIndexGateQubit(self.op.name), self.op.span);
+            return lines::report(out, sink, sema.texts, d);
+        }
+        let s = self.check_index(sema, out, sink);
+        self.check_slice(sema, out, s)
+    }
 }

@@ -19,7 +19,7 @@ fn is_subscripted(op: GateOperand) -> bool
 fn is_gate_qubit(kind: SymbolKind) -> bool
     ensures { result ≡ sema.is_gate_qubit (kind_of kind) }
 {
-    matches!(kind, SymbolKind::GateQubit)
+    kind == SymbolKind::GateQubit
 }
 
 // A gate qubit is a single wire.

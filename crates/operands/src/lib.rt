@@ -25,6 +25,7 @@ ghost use Rattle.operands.specs.Widths.{measure_widths, uniform};
 
 use accepted::operands::operand_at;
 use accepted::singles::{is_single, single_at};
+use bounds::Declared;
 use context::{GateOperand, SemaContext, Sink};
 use lines::{Expected, Message, Note, error, error_with_note};
 pub use measured::Measured;
@@ -48,8 +49,9 @@ pub fn check_operand(
             error(Message::NotDeclared(op.name), op.span),
         );
     };
-    let s = bounds::check_kind(sema, out, op, symbol, expected, sink);
-    bounds::check_bounds(sema, out, op, symbol, s)
+    let declared = Declared { op, symbol };
+    let s = declared.check_kind(sema, out, expected, sink);
+    declared.check_bounds(sema, out, s)
 }
 
 #[tactic(auto, unfolding(sema::specs::Operands::operand_width))]
@@ -131,7 +133,7 @@ fn is_quiet(sema: SemaContext<'_>, op: GateOperand, expected: Expected) -> bool
     let Some(symbol) = tables::get(sema.scratch, sema.depth, op.name) else {
         return false;
     };
-    kinds::fits(expected, symbol.kind) && bounds::keeps_bounds(op, symbol)
+    kinds::fits(expected, symbol.kind) && Declared { op, symbol }.keeps_bounds()
 }
 
 // An operand of a gate call, a barrier or a delay. Of most there is nothing to say but of their use.

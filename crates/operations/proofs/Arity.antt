@@ -1,15 +1,14 @@
 -- What is said of the arity of a gate call: what each way out shows. Assumes nothing.
-use Prim.Native.Nat.{ℕ, ◌+◌, ◌-◌, ◌≤◌, ◌<◌}
-use mathlib.Core.Path.{◌≡◌, refl, sym, ap, ◌∙◌}
+use Prim.Native.Nat.{ℕ, ◌+◌}
+use mathlib.Core.Path.{◌≡◌, sym, ap, ◌∙◌}
 use mathlib.Core.List.{List, [], map}
 use mathlib.Core.Option.{none, some}
 use mathlib.Core.Bool.{Bool, true, false, and-eq-true_iff}
-use native.Mathlib.Omega.{arith}
 use native.Mathlib.Nat.{add_comm}
 use lib.ListN.{get_or}
 use Rattle.std.specs.Prelude.{Option, Some, None}
 use lib.Dec.{eqb}
-use borrow.Author.Tests.{eqb-true, eqb-false, eq-eqb, ne_eqb}
+use borrow.Author.Tests.{eq-eqb, ne_eqb}
 use Rattle.span.specs.declared.Span.{Span}
 use Rattle.ast.specs.Tree.{Text}
 use Rattle.gates.specs.Gates.{lower, signature_of}
@@ -31,25 +30,8 @@ use Rattle.promises.specs.Emitted.{Emitted, emitted-one, emitted_then, emitted_a
 use Rattle.operations.specs.declared.calls.Call.{Call}
 use Rattle.operations.specs.Calls.{noted, params_by, qubits_by, fits_arity, arity_by, standard_by, standard_of, signature_by}
 
--- `is_arity`: fewer arguments than qubits, or the rest is for the controls
-pub too_few : (args qubits controls : ℕ) → args < qubits → false ≡ eqb args (qubits + controls)
-too_few args qubits controls l = sym (ne_eqb args (qubits + controls) (λ e. omega arith))
-
-pub rest_is : (args qubits controls : ℕ) → qubits ≤ args → eqb (args - qubits) controls ≡ eqb args (qubits + controls)
-rest_is args qubits controls l = go (eqb (args - qubits) controls) refl
-  where
-    go : (b : Bool) → eqb (args - qubits) controls ≡ b → b ≡ eqb args (qubits + controls)
-    go true e = let n = eqb-true (args - qubits) controls e in sym (eq-eqb args (qubits + controls) (omega arith))
-    go false e = let n = eqb-false (args - qubits) controls e in sym (ne_eqb args (qubits + controls) (λ f. n (omega arith)))
-
 -- `fits_arity`
 module _ (c : Call) (params qubits : ℕ) where
-  pub arity_asked : (b : Bool) → c.params ≡ params → b ≡ eqb c.args (qubits + c.controls) → b ≡ fits_arity c params qubits
-  arity_asked b e f = f ∙ rw (eq-eqb c.params params e)
-
-  pub arity_unlike : (c.params ≡ params → ⊥) → false ≡ fits_arity c params qubits
-  arity_unlike e = rw (ne_eqb c.params params e)
-
   pub arity_fits : {t : List Text} (decl : Option (Note × Span)) {s : Sink} {o : List ℕ} (b : Bool) → b ≡ fits_arity c params qubits → b ≡ true → Emitted t (arity_by c params qubits (secondary_of decl)) s o s o
   arity_fits decl b is e =
       let g = (and-eq-true_iff (eqb c.params params) (eqb c.args (qubits + c.controls))).0 (sym is ∙ e) in
@@ -104,3 +86,5 @@ module _ {t : List Text} (gs : Table GateSig) (c : Call) {s : Sink} {o : List �
 
   pub defined-fits : (sig : GateValue) (b : Bool) → f ≡ Some sig → b ≡ fits_arity c sig.param_count sig.qubit_count → b ≡ true → Emitted t (signature_by t gs c) s o s o
   defined-fits sig b k is h = defined sig k (arity_fits c _ _ (Some ((Note.DefinedHere c.name), sig.decl_span)) b is h)
+
+pub ruleset fits = (defined-fits)

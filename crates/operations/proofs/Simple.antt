@@ -4,14 +4,14 @@ use mathlib.Core.Path.{◌≡◌, refl, sym, ap}
 use mathlib.Core.List.{List, []}
 use lib.ListN.{get_or}
 use Rattle.span.specs.declared.Span.{Span}
-use Rattle.ast.specs.Tree.{Text, Stmt, GateOperand}
-use Rattle.tree.specs.Ans.{Ans, ok, IsOk, next_of, given}
+use Rattle.ast.specs.Tree.{Text, Stmt}
+use Rattle.tree.specs.Ans.{Ans, ok, IsOk}
 use Rattle.tree.specs.Read.{vec}
 use Rattle.tree.specs.Stmts.{held, operand, stmt}
 use Rattle.tree.specs.Decode.{texts_of}
 use Rattle.sema.specs.Messages.{Diagnostic, a_qubit}
 use Rattle.sema.specs.Messages
-use Rattle.sema.specs.Symbols.{Symbols, after}
+use Rattle.sema.specs.Symbols.{after}
 use Rattle.sema.specs.Marks.{Key, Marks, effect, apply, mark, clear_measured}
 use Rattle.sema.specs.Operands.{check_operand, use_operands}
 use Rattle.sema.specs.Exprs.{require_numeric}
@@ -33,10 +33,6 @@ use Rattle.promises.specs.WalkLaws.{same-walked}
 -- what was said of a value that was read
 pub said_ok : {A : Type 0} {t : List Text} {says : A → List Diagnostic} {x : Ans A} {s : Sink} {o : List ℕ} {r : After} {o' : List ℕ} (d : A) → IsOk x → SaidOf t says x s o r o' → Emitted t (says (value_or d x)) s o r.sink o'
 said_ok {says = says} {x = x} d h p = emitted_as p.emitted (given_ok d [] says x h)
-
--- the operands behind which a statement's span stands
-pub targets_said : (tree : List ℕ) {t : List Text} (ss : Symbols) (m : Marks) {x : Ans (List GateOperand)} {s : Sink} {o : List ℕ} {r : Sink} {o' : List ℕ} {k : ℕ} {sp : Span} → k ≡ next_of x → sp ≡ span_at tree k → Emitted t (given [] (use_operands ss m sp) x) s o r o' → SaidOf t (use_operands ss m (span_at tree k)) x s o (record { next = k; sink = r }) o'
-targets_said tree ss m {x = x} e f p = record { next = e; emitted = emitted_as p (ap (λ sp. given [] (use_operands ss m sp) x) f) }
 
 -- the context with other marks
 pub context_by : (tree : List ℕ) (ks : List Key) (sheet : List ℕ) {m : Marks} (s : List ℕ) (depth : ℕ) → marks_of tree ks sheet ≡ m → context_of tree ks s depth sheet ≡ record { symbols = scopes_of s depth; gates = gates_of s; functions = functions_of s; measured = m }

@@ -4,7 +4,7 @@ ghost use Rattle.ast.specs.Tree.{no_expr};
 ghost use Rattle.tree.specs.Ans.{IsOk, next_of};
 ghost use Rattle.tree.specs.Read.{vec};
 ghost use Rattle.tree.specs.Exprs.{exprs};
-ghost use Rattle.tree.specs.Stmts.{held, modifier, operand, stmt};
+ghost use Rattle.tree.specs.Stmts.{held, modifier, operand};
 ghost use Rattle.tree.specs.Decode.{texts_of};
 ghost use Rattle.sema.specs.Exprs.{check_modifiers};
 ghost use Rattle.sema.specs.Operands.{use_operands};
@@ -22,7 +22,7 @@ ghost use Rattle.operations.specs.Calls.{CallOf, params_by, qubits_by, fits_arit
 use accepted::exprs::skip_exprs;
 use accepted::numbers::{span_at, u16_at};
 use accepted::parts::skip_operands;
-use context::{SemaContext, Sink};
+use context::{SemaContext, Sink, StmtAt};
 use lines::pieces::name_of;
 use lines::{Diagnostic, Message, Note, Severity};
 use operands::Measured;
@@ -41,10 +41,12 @@ pub struct Call {
     pub span: Span,
 }
 
-pub fn call_at(tree: &[u8], at: usize, left: usize) -> Call
-    requires { IsOk (stmt (texts_of tree.now) left tree.now at) × (get_or tree.now at 0 ≡ 5) }
-    ensures { CallOf (texts_of tree.now) tree.now at result }
+pub fn call_at(here: StmtAt<'_>) -> Call
+    requires { get_or here.texts.tree.now here.at 0 ≡ 5 }
+    ensures { CallOf (texts_of here.entry.texts.tree.now) here.entry.texts.tree.now here.entry.at result }
 {
+    let tree = here.texts.tree;
+    let at = here.at;
     let c = constants::modifier_control_count(tree, at + 3);
     let params_at = c.next;
     let args_at = skip_exprs(tree, params_at, 32);
@@ -65,6 +67,14 @@ pub fn call_at(tree: &[u8], at: usize, left: usize) -> Call
         end,
         span,
     }
+}
+
+// What a gate takes, and the note where the program defines it.
+#[derive(Clone, Copy)]
+struct Arity {
+    params: u8,
+    qubits: u8,
+    decl: Option<(Note, Span)>,
 }
 
 // Is the number of arguments that of the qubits and controls?
@@ -99,84 +109,81 @@ fn check_param_count(
     sema: SemaContext<'_>,
     out: &mut [u8],
     call: Call,
-    params: u8,
-    decl: Option<(Note, Span)>,
+    gate: Arity,
     sink: Sink,
 ) -> Sink
-    requires { (call.name < length (texts sema)) × NoteBelow (length (texts sema)) decl }
-    ensures { Emitted (texts sema.entry) (params_by call params (secondary_of decl)) sink out.old result out.new }
+    requires { (call.name < length (texts sema)) × NoteBelow (length (texts sema)) gate.decl }
+    ensures { Emitted (texts sema.entry) (params_by call gate.params (secondary_of gate.decl)) sink out.old result out.new }
 {
-    if call.params == params {
+    if call.params == gate.params {
         return sink;
     }
-    let message = Message::GateParams(call.name, u64::from(params), u64::from(call.params));
-    report_call(sema, out, call, message, decl, sink)
+    let message = Message::GateParams(call.name, u64::from(gate.params), u64::from(call.params));
+    report_call(sema, out, call, message, gate.decl, sink)
 }
 
 fn check_qubit_count(
     sema: SemaContext<'_>,
     out: &mut [u8],
     call: Call,
-    qubits: u8,
-    decl: Option<(Note, Span)>,
+    gate: Arity,
     sink: Sink,
 ) -> Sink
-    requires { (call.name < length (texts sema)) × NoteBelow (length (texts sema)) decl }
-    ensures { Emitted (texts sema.entry) (qubits_by call qubits (secondary_of decl)) sink out.old result out.new }
+    requires { (call.name < length (texts sema)) × NoteBelow (length (texts sema)) gate.decl }
+    ensures { Emitted (texts sema.entry) (qubits_by call gate.qubits (secondary_of gate.decl)) sink out.old result out.new }
 {
-    if is_arity(call.args, qubits, call.controls) {
+    if is_arity(call.args, gate.qubits, call.controls) {
         return sink;
     }
     let message = Message::GateQubits(
         call.name,
         call.controls,
-        u64::from(qubits),
+        u64::from(gate.qubits),
         u64::from(call.args),
     );
-    report_call(sema, out, call, message, decl, sink)
+    report_call(sema, out, call, message, gate.decl, sink)
 }
 
 // Are there as many parameters and arguments as there should be? Asked by each caller, before the call is passed on: most fit.
-fn fits_arity(call: Call, params: u8, qubits: u8) -> bool
-    ensures { result ≡ fits_arity call params qubits }
+fn fits_arity(call: Call, gate: Arity) -> bool
+    ensures { result ≡ fits_arity call gate.params gate.qubits }
 {
-    call.params == params && is_arity(call.args, qubits, call.controls)
+    call.params == gate.params && is_arity(call.args, gate.qubits, call.controls)
 }
 
-// The counts that are wrong. With a note where the gate is defined in the program.
-fn report_arity(
-    sema: SemaContext<'_>,
-    out: &mut [u8],
-    call: Call,
-    params: u8,
-    qubits: u8,
-    decl: Option<(Note, Span)>,
-    sink: Sink,
-) -> Sink
-    requires { (call.name < length (texts sema)) × NoteBelow (length (texts sema)) decl }
-    ensures { Emitted (texts sema.entry) (arity_by call params qubits (secondary_of decl)) sink out.old result out.new }
+// The counts that are wrong.
+fn report_arity(sema: SemaContext<'_>, out: &mut [u8], call: Call, gate: Arity, sink: Sink) -> Sink
+    requires { (call.name < length (texts sema)) × NoteBelow (length (texts sema)) gate.decl }
+    ensures { Emitted (texts sema.entry) (arity_by call gate.params gate.qubits (secondary_of gate.decl)) sink out.old result out.new }
 {
-    let s = check_param_count(sema, out, call, params, decl, sink);
-    check_qubit_count(sema, out, call, qubits, decl, s)
+    let s = check_param_count(sema, out, call, gate, sink);
+    check_qubit_count(sema, out, call, gate, s)
 }
 
 // A gate that the program does not define: a standard gate, or none.
+#[tactic(auto, using(crate::proofs::Arity::standard_fits))]
 fn check_standard(sema: SemaContext<'_>, out: &mut [u8], call: Call, sink: Sink) -> Sink
     requires { call.name < length (texts sema) }
     ensures { Emitted (texts sema.entry) (standard_of (texts sema.entry) call) sink out.old result out.new }
 {
     let name = name_of(sema.texts.tree, sema.texts.places, call.name);
-    let Some(gate) = gates::standard_gate_signature(name) else {
+    let Some(standard) = gates::standard_gate_signature(name) else {
         let message = Message::GateNotDefined(call.name);
         return report_call(sema, out, call, message, None, sink);
     };
-    if fits_arity(call, gate.params, gate.qubits) {
+    let gate = Arity {
+        params: standard.params,
+        qubits: standard.qubits,
+        decl: None,
+    };
+    if fits_arity(call, gate) {
         return sink;
     }
-    report_arity(sema, out, call, gate.params, gate.qubits, None, sink)
+    report_arity(sema, out, call, gate, sink)
 }
 
 // A definition of the program goes before a standard gate.
+#[tactic(auto, using(crate::proofs::Arity::fits))]
 pub fn check_signature(sema: SemaContext<'_>, out: &mut [u8], call: Call, sink: Sink) -> Sink
     requires { call.name < length (texts sema) }
     ensures { Emitted (texts sema.entry) (signature_by (texts sema.entry) (gates_of sema.entry.scratch.now) call) sink out.old result out.new }
@@ -184,13 +191,15 @@ pub fn check_signature(sema: SemaContext<'_>, out: &mut [u8], call: Call, sink: 
     let Some(sig) = tables::gate(sema.scratch, call.name) else {
         return check_standard(sema, out, call, sink);
     };
-    let params = sig.param_count;
-    let qubits = sig.qubit_count;
-    if fits_arity(call, params, qubits) {
+    let gate = Arity {
+        params: sig.param_count,
+        qubits: sig.qubit_count,
+        decl: Some((Note::DefinedHere(call.name), sig.decl_span)),
+    };
+    if fits_arity(call, gate) {
         return sink;
     }
-    let decl = Some((Note::DefinedHere(call.name), sig.decl_span));
-    report_arity(sema, out, call, params, qubits, decl, sink)
+    report_arity(sema, out, call, gate, sink)
 }
 
 // The modifiers at `at`, and the parameters behind them.

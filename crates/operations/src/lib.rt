@@ -23,25 +23,18 @@ use accepted::numbers::span_at;
 use accepted::operands::operand_at;
 use accepted::parts::skip_operands;
 use calls::{call_at, check_args, check_signature, check_values};
-use context::{After, Index, Key, SemaContext, Sink, Texts};
+use context::{After, Index, Key, Sink, StmtAt};
 use lines::{Expected, Message};
 use measures::{check_measure, mark_measured};
 use operands::Measured;
 
 // An include says nothing and changes nothing.
-pub fn include(
-    tree: &[u8],
-    scratch: &[u8],
-    out: &mut [u8],
-    left: usize,
-    at: usize,
-    sink: Sink,
-) -> After
-    requires { Passable tree.now scratch.now × IsOk (stmt (texts_of tree.now) left tree.now at) × (left ≤ 8) × (get_or tree.now at 0 ≡ 0) }
-    ensures { StmtPassed tree.now left at sink scratch.now out.old result scratch.now out.new }
+pub fn include(here: StmtAt<'_>, scratch: &[u8], out: &mut [u8], sink: Sink) -> After
+    requires { Passable here.texts.tree.now scratch.now × (get_or here.texts.tree.now here.at 0 ≡ 0) }
+    ensures { StmtPassed here.entry.texts.tree.now here.entry.left here.entry.at sink scratch.now out.old result scratch.now out.new }
 {
     After {
-        next: at + 11,
+        next: here.at + 11,
         sink,
     }
 }
@@ -60,25 +53,19 @@ fn use_targets(m: Measured<'_, '_>, out: &mut [u8], at: usize, sink: Sink) -> Af
 // A barrier uses its operands. `Measured` is made here and in the two others: lent by the walk, it would be made in three arms of its
 // match, and its depth would be a clause beside `left`.
 pub fn barrier<'a>(
-    texts: Texts<'a>,
+    here: StmtAt<'a>,
     keys: &'a [Key],
     scratch: &'a [u8],
     out: &mut [u8],
-    left: usize,
     marks: &[u16; 256],
-    at: usize,
     sink: Sink,
 ) -> After
-    requires { Walkable texts.tree.now keys.now × Ready texts.tree.now scratch.now (state_of at sink marks.now) × IsOk (stmt (texts_of texts.tree.now) left texts.tree.now at) × (left ≤ 8) × (get_or texts.tree.now at 0 ≡ 10) }
-    ensures { StmtWalked texts.entry.tree.now (keys_of keys.now) left (state_of at sink marks.now) scratch.now out.old (state_of result.next result.sink marks.now) scratch.now out.new }
+    requires { Walkable here.texts.tree.now keys.now × Ready here.texts.tree.now scratch.now (state_of here.at sink marks.now) × (get_or here.texts.tree.now here.at 0 ≡ 10) }
+    ensures { StmtWalked here.entry.texts.tree.now (keys_of keys.now) here.entry.left (state_of here.entry.at sink marks.now) scratch.now out.old (state_of result.next result.sink marks.now) scratch.now out.new }
 {
-    let sema = SemaContext {
-        texts,
-        scratch,
-        depth: 9 - left,
-    };
+    let sema = here.context(scratch);
     let m = Measured { sema, keys, marks };
-    let a = use_targets(m, out, at + 1, sink);
+    let a = use_targets(m, out, here.at + 1, sink);
     After {
         next: a.next + 8,
         ..a
@@ -87,25 +74,19 @@ pub fn barrier<'a>(
 
 // A delay: a numeric duration, and the operands it uses.
 pub fn delay<'a>(
-    texts: Texts<'a>,
+    here: StmtAt<'a>,
     keys: &'a [Key],
     scratch: &'a [u8],
     out: &mut [u8],
-    left: usize,
     marks: &[u16; 256],
-    at: usize,
     sink: Sink,
 ) -> After
-    requires { Walkable texts.tree.now keys.now × Ready texts.tree.now scratch.now (state_of at sink marks.now) × IsOk (stmt (texts_of texts.tree.now) left texts.tree.now at) × (left ≤ 8) × (get_or texts.tree.now at 0 ≡ 11) }
-    ensures { StmtWalked texts.entry.tree.now (keys_of keys.now) left (state_of at sink marks.now) scratch.now out.old (state_of result.next result.sink marks.now) scratch.now out.new }
+    requires { Walkable here.texts.tree.now keys.now × Ready here.texts.tree.now scratch.now (state_of here.at sink marks.now) × (get_or here.texts.tree.now here.at 0 ≡ 11) }
+    ensures { StmtWalked here.entry.texts.tree.now (keys_of keys.now) here.entry.left (state_of here.entry.at sink marks.now) scratch.now out.old (state_of result.next result.sink marks.now) scratch.now out.new }
 {
-    let sema = SemaContext {
-        texts,
-        scratch,
-        depth: 9 - left,
-    };
+    let sema = here.context(scratch);
     let m = Measured { sema, keys, marks };
-    let a = typing::require_numeric(sema, out, at + 1, Message::DelayNumeric, sink);
+    let a = typing::require_numeric(sema, out, here.at + 1, Message::DelayNumeric, sink);
     let b = use_targets(m, out, a.next, a.sink);
     After {
         next: b.next + 8,
@@ -115,25 +96,19 @@ pub fn delay<'a>(
 
 // A reset clears the marks of its operand.
 pub fn reset<'a>(
-    texts: Texts<'a>,
+    here: StmtAt<'a>,
     keys: &'a [Key],
     scratch: &'a [u8],
     out: &mut [u8],
-    left: usize,
     marks: &mut [u16; 256],
-    at: usize,
     sink: Sink,
 ) -> After
-    requires { Walkable texts.tree.now keys.now × Ready texts.tree.now scratch.now (state_of at sink marks.old) × IsOk (stmt (texts_of texts.tree.now) left texts.tree.now at) × (left ≤ 8) × (get_or texts.tree.now at 0 ≡ 9) }
-    ensures walked { StmtWalked texts.entry.tree.now (keys_of keys.now) left (state_of at sink marks.old) scratch.now out.old (state_of result.next result.sink marks.new) scratch.now out.new }
+    requires { Walkable here.texts.tree.now keys.now × Ready here.texts.tree.now scratch.now (state_of here.at sink marks.old) × (get_or here.texts.tree.now here.at 0 ≡ 9) }
+    ensures walked { StmtWalked here.entry.texts.tree.now (keys_of keys.now) here.entry.left (state_of here.entry.at sink marks.old) scratch.now out.old (state_of result.next result.sink marks.new) scratch.now out.new }
     ensures behind { (n : ℕ) → length keys.now ≤ n → Blank n marks.old → Blank n marks.new }
 {
-    let sema = SemaContext {
-        texts,
-        scratch,
-        depth: 9 - left,
-    };
-    let op = operand_at(texts.tree, at + 1);
+    let sema = here.context(scratch);
+    let op = operand_at(here.texts.tree, here.at + 1);
     let said = operands::check_operand(sema, out, op.value, Expected::Qubit, sink);
     sheet::clear(marks, keys, op.value);
     After {
@@ -142,7 +117,8 @@ pub fn reset<'a>(
     }
 }
 
-// Puts the keys of the measure statement at `at` into the index: how many there are then, or None where they are too many.
+// Puts the keys of the measure statement at `at` into the index: how many there are then, or None where they are too many. Plain
+// parameters: a `StmtAt` would ask for the places of the texts too.
 pub fn add_keys(
     tree: &[u8],
     index: &mut Index,
@@ -162,26 +138,20 @@ pub fn add_keys(
 
 // A measurement: its operands, and the marks that it sets.
 pub fn measure<'a>(
-    texts: Texts<'a>,
+    here: StmtAt<'a>,
     keys: &'a [Key],
     scratch: &'a [u8],
     out: &mut [u8],
-    left: usize,
     marks: &mut [u16; 256],
-    at: usize,
     sink: Sink,
 ) -> After
-    requires walkable { Walkable texts.tree.now keys.now × Ready texts.tree.now scratch.now (state_of at sink marks.old) × IsOk (stmt (texts_of texts.tree.now) left texts.tree.now at) × (left ≤ 8) × (get_or texts.tree.now at 0 ≡ 8) }
-    requires stmt_keyed { StmtKeyed (keys_of keys.now) (scopes_of scratch.now (9 - left)) (stmt (texts_of texts.tree.now) left texts.tree.now at) }
-    ensures walked { StmtWalked texts.entry.tree.now (keys_of keys.now) left (state_of at sink marks.old) scratch.now out.old (state_of result.next result.sink marks.new) scratch.now out.new }
+    requires walkable { Walkable here.texts.tree.now keys.now × Ready here.texts.tree.now scratch.now (state_of here.at sink marks.old) × (get_or here.texts.tree.now here.at 0 ≡ 8) }
+    requires stmt_keyed { StmtKeyed (keys_of keys.now) (scopes_of scratch.now (9 - here.left)) (stmt (texts_of here.texts.tree.now) here.left here.texts.tree.now here.at) }
+    ensures walked { StmtWalked here.entry.texts.tree.now (keys_of keys.now) here.entry.left (state_of here.entry.at sink marks.old) scratch.now out.old (state_of result.next result.sink marks.new) scratch.now out.new }
     ensures behind { (n : ℕ) → length keys.now ≤ n → Blank n marks.old → Blank n marks.new }
 {
-    let sema = SemaContext {
-        texts,
-        scratch,
-        depth: 9 - left,
-    };
-    let qubit = operand_at(texts.tree, at + 1);
+    let sema = here.context(scratch);
+    let qubit = operand_at(here.texts.tree, here.at + 1);
     let m = Measured {
         sema,
         keys,
@@ -189,7 +159,7 @@ pub fn measure<'a>(
     };
     let a = check_measure(m, out, qubit.value, qubit.next, sink);
     let said = a.sink;
-    mark_measured(keys, scratch, 9 - left, marks, qubit.value, at);
+    mark_measured(keys, scratch, 9 - here.left, marks, qubit.value, here.at);
     After {
         next: a.next + 8,
         sink: said,
@@ -198,27 +168,21 @@ pub fn measure<'a>(
 
 // A gate call: its arity, its modifiers and parameters, and its operands.
 pub fn gate_call<'a>(
-    texts: Texts<'a>,
+    here: StmtAt<'a>,
     keys: &'a [Key],
     scratch: &'a [u8],
     out: &mut [u8],
-    left: usize,
     marks: &[u16; 256],
-    at: usize,
     sink: Sink,
 ) -> After
-    requires { Walkable texts.tree.now keys.now × Ready texts.tree.now scratch.now (state_of at sink marks.now) × IsOk (stmt (texts_of texts.tree.now) left texts.tree.now at) × (left ≤ 8) × (get_or texts.tree.now at 0 ≡ 5) }
-    ensures { StmtWalked texts.entry.tree.now (keys_of keys.now) left (state_of at sink marks.now) scratch.now out.old (state_of result.next result.sink marks.now) scratch.now out.new }
+    requires { Walkable here.texts.tree.now keys.now × Ready here.texts.tree.now scratch.now (state_of here.at sink marks.now) × (get_or here.texts.tree.now here.at 0 ≡ 5) }
+    ensures { StmtWalked here.entry.texts.tree.now (keys_of keys.now) here.entry.left (state_of here.entry.at sink marks.now) scratch.now out.old (state_of result.next result.sink marks.now) scratch.now out.new }
 {
-    let sema = SemaContext {
-        texts,
-        scratch,
-        depth: 9 - left,
-    };
+    let sema = here.context(scratch);
     let m = Measured { sema, keys, marks };
-    let call = call_at(texts.tree, at, left);
+    let call = call_at(here);
     let named = check_signature(sema, out, call, sink);
-    let checked = check_values(sema, out, at + 3, named);
+    let checked = check_values(sema, out, here.at + 3, named);
     let said = check_args(m, out, call.args_at, call.span, checked);
     After {
         next: call.end + 8,

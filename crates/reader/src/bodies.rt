@@ -146,7 +146,7 @@ fn read_else(source: &Source, at: usize, left: usize) -> Read<()>
     read_option(source.bytes, at, read)
 }
 
-// Statements behind their two-byte count. A loop: tried by a closure, as the Vecs are read, a body took 4% more instructions.
+// Statements behind their count. A loop of its own: the count has two bytes, in a Vec one.
 #[cycle(bodies)]
 #[tactic(auto, unfolding(reading::specs::Answers::forget), using(reading::proofs::Held::vecs, crate::proofs::Cases::bodies))]
 pub fn read_body(source: &Source, at: usize, left: usize) -> Read<()>

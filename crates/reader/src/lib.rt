@@ -39,6 +39,7 @@ fn read_file(s: &[u8]) -> Read<()>
         return a.into_place();
     };
     let n = usize::from(count);
+    // Fixed memory: room for all the kinds there may be.
     let mut kinds = [Spelling::Neither; texts::TEXTS_LIMIT];
     let b = texts::read_texts(s, first, n, &mut kinds);
     let Read::At(_, k) = b else {

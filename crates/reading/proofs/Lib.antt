@@ -1,4 +1,5 @@
 pub mod Steps
+pub mod Tested
 pub mod Bytes
 pub mod Held
 pub mod Spelled

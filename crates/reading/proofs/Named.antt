@@ -1,15 +1,13 @@
 -- The bytes of texts, and text numbers. Assumes nothing.
-use Rattle.std.proofs.Common.{◌≡◌, refl, sym, ◌∙◌, ℕ, suc, ◌+◌, ◌<◌, ◌≤◌, ◌⊎◌, inl, inr, List, [], ◌∷◌, length, get_or, Bool, true, false, not, ◌||◌, cond, ltb, arith, Some, None}
+use Rattle.std.proofs.Common.{◌≡◌, refl, sym, ◌∙◌, ℕ, suc, ◌+◌, ◌<◌, List, [], ◌∷◌, length, get_or, Bool, true, false, not, ◌||◌, cond, ltb, arith, Option, Some, None, Bor}
 use Rattle.std.specs.List.{position, prefix_len}
-use borrow.Author.Tests.{lt-ltb, le-ltb}
+use Rattle.std.specs.Option.{is_some, option_eq, IfSome}
+use borrow.Author.Tests.{lt-ltb, ltb-true}
 use lib.ListN.{length-map}
 use Rattle.std.proofs.lemmas.List.{get_or-map}
-use Rattle.text.proofs.Order.{le-or-lt}
 use Rattle.ast.specs.Tree.{Text}
-use Rattle.tree.specs.Ans.{Ans, ok, refused, bind, ◌>>=◌, ◌>>◌, done, here, refuse, check}
-use Rattle.tree.specs.Read.{number}
-use Rattle.tree.specs.Texts.{between, allowed, is_path, is_name, is_float, letter, digit, every}
-use Rattle.tree.specs.Exprs.{text_number}
+use Rattle.tree.specs.Ans.{Ans, ok, refused, bind, ◌>>◌, done, refuse, check}
+use Rattle.tree.specs.Texts.{between, allowed, is_name, is_float, letter, digit, every}
 use Rattle.tree.specs.Decode.{texts_of}
 use denote.Enum.Bare.{sameb}
 use mathlib.Core.Bool.{and-eq-true_iff}
@@ -17,7 +15,7 @@ use Rattle.std.proofs.lemmas.Bool.Decides.{nat_tests}
 use Rattle.reading.specs.contracts.spelling.Spelling.{the_type}
 use Rattle.reading.specs.declared.spelling.Spelling.{Spelling}
 use Rattle.reading.specs.declared.spelling.Spelling.TheVariants.{Neither, Name, Float}
-use Rattle.reading.specs.Section.{kind_by, kind_of, of_kind, kinds_of}
+use Rattle.reading.specs.Section.{kind_by, kind_of, of_kind, has_text, kinds_of}
 use Rattle.reading.proofs.Spelled.{ltb_suc, name_some}
 
 abbrev well : ℕ → Ans (Unit {0})
@@ -72,35 +70,6 @@ pub length-kinds_of : (s : List ℕ) → length (kinds_of s) ≡ length (texts_o
 unfolding kinds_of
 length-kinds_of s = length-map (texts_of s) kind_of
 
--- first any text, then the spelling
-spelled-after : (t : List Text) (s : List ℕ) (at : ℕ) (spelled : Text → Bool) → text_number t spelled s at ≡ bind (text_number t is_path s at) (λ n next. ◌>>◌ (check (spelled (get_or t n [])) 4 at) (done n) s next)
-unfolding text_number is_path here check done refuse ◌>>=◌ ◌>>◌ bind
-spelled-after t s at spelled = go (number 2 s at)
-  where
-    test : (b : Bool) (n k : ℕ) → bind (check b 4 at s k) (λ u next. bind (check (spelled (get_or t n [])) 4 at s next) (λ v after. ok n after)) ≡ bind (bind (check b 4 at s k) (λ u next. ok n next)) (λ n next. bind (check (spelled (get_or t n [])) 4 at s next) (λ v after. ok n after))
-    test true n k = refl
-    test false n k = refl
-
-    go : (x : Ans ℕ) → bind x (λ n k. bind (check (ltb n (length t)) 4 at s k) (λ u next. bind (check (spelled (get_or t n [])) 4 at s next) (λ v after. ok n after)))
-        ≡ bind (bind x (λ n k. bind (check (ltb n (length t)) 4 at s k) (λ u next. ok n next))) (λ n next. bind (check (spelled (get_or t n [])) 4 at s next) (λ v after. ok n after))
-    go (ok n k) = test (ltb n (length t)) n k
-    go (refused o p) = refl
-
-pub path-near : (t : List Text) (s : List ℕ) (at n k : ℕ) → ok n k ≡ text_number t is_path s at → n < length t
-unfolding text_number is_path here check done refuse ◌>>=◌ ◌>>◌ bind
-path-near t s at n k e = go (number 2 s at) e
-  where
-    near : (m next : ℕ) → (length t ≤ m) ⊎ (m < length t) → ok n k ≡ bind (check (ltb m (length t)) 4 at s next) (λ u after. ok m after) → n < length t
-    near m next (inl h) e = let z : ok n k ≡ refused 4 at = rw (le-ltb m (length t) h) at e in absurd cc
-    near m next (inr h) e =
-        let f : ok n k ≡ ok m next = rw (lt-ltb m (length t) h) at e in
-        let z : n ≡ m = cc in
-        rw z h
-
-    go : (x : Ans ℕ) → ok n k ≡ bind x (λ m next. bind (check (ltb m (length t)) 4 at s next) (λ u after. ok m after)) → n < length t
-    go (ok m next) e = near m next (le-or-lt _ _) e
-    go (refused o p) e = absurd cc
-
 -- a kind says the spelling
 kind-says : (name float : Bool) (x : Text) (k : Spelling) → is_name x ≡ name → is_float x ≡ float → (name ≡ true → float ≡ false) → sameb the_type (kind_by name float) k ≡ of_kind k x
 unfolding kind_by of_kind
@@ -131,18 +100,20 @@ pub kind_allowed : (x : Text) (kind : Spelling) → kind ≡ kind_of x → (r : 
 unfolding of_kind
 kind_allowed x kind e r test g place s at = name_allowed x place s at (sym (kind_same x Name) ∙ rw e at (sym test) ∙ g)
 
--- a text number that was read, and a test on how the code knows its text to be spelled
-module _ (s : List ℕ) (kinds : List Spelling) (known : kinds ≡ kinds_of s) (at n k : ℕ) (read : ok n k ≡ text_number (texts_of s) is_path s at) (m : ℕ) (same : m ≡ n) (d kind : Spelling) (r : Bool) (test : r ≡ sameb the_type (get_or kinds m d) kind) where
-  told : r ≡ of_kind kind (get_or (texts_of s) n [])
+-- how the code knows a text to be spelled, where there is one with the number
+module _ (s : List ℕ) (kinds : List Spelling) (known : kinds ≡ kinds_of s) (m n : ℕ) (same : m ≡ n) where
+  told : (name : Spelling) → n < length (texts_of s) → name ≡ get_or kinds m name → (kind : Spelling) → sameb the_type name kind ≡ of_kind kind (get_or (texts_of s) n [])
   unfolding kinds_of
-  told = test ∙ rw (same, known, get_or-map kind_of (texts_of s) n [] d (path-near (texts_of s) s at n k read)) (kind_same (get_or (texts_of s) n []) kind)
+  told name h e kind =
+      let f : get_or kinds m name ≡ kind_of (get_or (texts_of s) n []) = rw (same, known) (get_or-map kind_of (texts_of s) n [] name h) in
+      rw (e ∙ f) (kind_same (get_or (texts_of s) n []) kind)
 
-  pub spelled-read : r ≡ true → ok n k ≡ text_number (texts_of s) (of_kind kind) s at
-  unfolding check done ◌>>◌ bind
-  spelled-read e = sym (rw (spelled-after (texts_of s) s at (of_kind kind), ← read, ← told, e) refl)
+  pub kind_got : (kind : Bor Spelling) (x : Option (Bor Spelling)) → is_some x ≡ ltb m (length kinds) → IfSome x (λ y. y.now ≡ get_or kinds m y.now)
+      → (r : Bool) → r ≡ option_eq (λ y z. sameb the_type y.now z.now) x (Some kind) → r ≡ has_text (texts_of s) (of_kind kind.now) n
+  unfolding has_text
+  kind_got kind None e f r g = g ∙ rw (← length-kinds_of s, ← known, ← same, ← e) refl
+  kind_got kind (Some y) e f r g =
+      let h : true ≡ ltb n (length (texts_of s)) = rw (same, known, length-kinds_of s) at e in
+      g ∙ rw (← h) (told y.now (ltb-true _ _ (sym h)) f kind.now)
 
-  pub spelled-other : r ≡ false → refused 4 at ≡ text_number (texts_of s) (of_kind kind) s at
-  unfolding check refuse ◌>>◌ bind
-  spelled-other e = sym (rw (spelled-after (texts_of s) s at (of_kind kind), ← read, ← told, e) refl)
-
-pub ruleset named = (allowed_none, allowed_some, length-kinds_of, spelled-read, spelled-other)
+pub ruleset named = (allowed_none, allowed_some, length-kinds_of)

@@ -1,5 +1,5 @@
 -- The text section as the code goes through it, by its length bytes, and the kind and checksum of each text.
-use Rattle.std.specs.Prelude.{◌≡◌, ℕ, zero, suc, ◌+◌, ◌*◌, ◌/◌, ◌%◌, ◌^◌, List, [], ◌∷◌, map, Bool, true, false, not, ◌||◌, leb, length, get_or, take}
+use Rattle.std.specs.Prelude.{◌≡◌, ℕ, zero, suc, ◌+◌, ◌*◌, ◌/◌, ◌%◌, ◌^◌, List, [], ◌∷◌, map, Bool, true, false, not, ◌&&◌, ◌||◌, leb, ltb, length, get_or, take}
 use Rattle.ast.specs.Tree.{Text}
 use Rattle.tree.specs.Limits.{texts_limit}
 use Rattle.tree.specs.Ans.{Reader, ◌>>=◌, ◌>>◌, done, here, check}
@@ -34,6 +34,10 @@ of_kind Name x = is_name x
 of_kind Float x = is_float x
 of_kind Neither x = not (is_name x || is_float x)
 
+-- there is a text with the number, and it is spelled so
+unfoldable pub has_text : List Text → (Text → Bool) → ℕ → Bool
+has_text t spelled n = ltb n (length t) && spelled (get_or t n [])
+
 -- a text, of which the kind is told
 unfoldable pub kind_read : Reader Spelling
 kind_read = do
@@ -50,9 +54,6 @@ mix h w = (h * 157 + w) % 2 ^ 48
 -- four bytes as one number
 abbrev pub four : ℕ → ℕ → ℕ → ℕ → ℕ
 four a b c d = a + b * 256 + c * 65536 + d * 16777216
-
-abbrev pub four_at : List ℕ → ℕ → ℕ
-four_at x i = four (get_or x i 0) (get_or x (i + 1) 0) (get_or x (i + 2) 0) (get_or x (i + 3) 0)
 
 -- a checksum: texts whose checksums differ are different. Four bytes go in at a time, the last ones one by one
 unfoldable pub sum_from : ℕ → Text → ℕ

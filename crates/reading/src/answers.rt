@@ -1,10 +1,10 @@
 // What a read answers: the value and the place past it, or the refusal.
-#![tactic(auto, unfolding(crate::specs::Answers::forget))]
+#![tactic(auto, unfolding(crate::specs::Answers::forget, crate::specs::Answers::tested, tree::specs::Ans::bind))]
 
-ghost use Rattle.std.specs.Prelude.{◌≡◌};
+ghost use Rattle.std.specs.Prelude.{◌≡◌, Bool};
 ghost use Rattle.refusal.specs.Refusal.{number_of};
 ghost use Rattle.tree.specs.Ans.{refused};
-ghost use Rattle.reading.specs.Answers.{answer, forget, Mapped};
+ghost use Rattle.reading.specs.Answers.{answer, forget, tested, Mapped};
 
 use refusal::{Refusal, Refused};
 
@@ -28,6 +28,28 @@ impl<T: Copy> Read<T> {
     {
         match self {
             Read::At(value, next) => Read::At(f(value), next),
+            Read::Refused(refused) => Read::Refused(refused),
+        }
+    }
+
+    // The value, if it passes the test.
+    pub(crate) fn check<F: FnOnce(T) -> bool>(
+        self,
+        test: F,
+        refusal: Refusal,
+        place: usize,
+    ) -> Read<T>
+        requires { F.IsAlwaysCallable test }
+        ensures { (p : T → Bool) → ((value : T) (b : Bool) → F.post test value b → b ≡ p value) → answer result ≡ tested p (number_of refusal) place (answer self) }
+    {
+        match self {
+            Read::At(value, next) => {
+                if test(value) {
+                    Read::At(value, next)
+                } else {
+                    refuse(refusal, place)
+                }
+            }
             Read::Refused(refused) => Read::Refused(refused),
         }
     }

@@ -1,5 +1,5 @@
 // The values that every part of the tree file is made of.
-#![tactic(auto, unfolding(crate::specs::Answers::forget, tree::specs::Ans::bind, tree::specs::Ans::here, tree::specs::Ans::check, tree::specs::Ans::done, tree::specs::Ans::refuse, tree::specs::Read::within, tree::specs::Read::byte, tree::specs::Read::bytes, tree::specs::Read::number, tree::specs::Read::span, tree::specs::Read::case_byte, tree::specs::Read::count, tree::specs::Stmts::slice), using(crate::proofs::Steps::steps, crate::proofs::Held::skips))]
+#![tactic(auto, unfolding(crate::specs::Answers::forget, tree::specs::Ans::bind, tree::specs::Ans::here, tree::specs::Ans::check, tree::specs::Ans::done, tree::specs::Ans::refuse, tree::specs::Read::within, tree::specs::Read::byte, tree::specs::Read::bytes, tree::specs::Read::number, tree::specs::Read::span, tree::specs::Read::case_byte, tree::specs::Read::count, tree::specs::Stmts::slice), using(crate::proofs::Steps::steps, crate::proofs::Held::skips, crate::proofs::Tested::reads))]
 
 ghost use Rattle.std.specs.Prelude.{◌≡◌, ◌<◌};
 ghost use Rattle.tree.specs.Ans.{bind};
@@ -31,28 +31,14 @@ pub(crate) fn read_byte(s: &[u8], at: usize) -> Read<u8>
 pub fn read_case(s: &[u8], at: usize, cases: u8) -> Read<u8>
     ensures { answer result ≡ case_byte cases s.now at }
 {
-    let a = read_byte(s, at);
-    let Read::At(b, _) = a else {
-        return a;
-    };
-    if b < cases {
-        return a;
-    }
-    refuse(Refusal::NotAllowed, at)
+    read_byte(s, at).check(|b| b < cases, Refusal::NotAllowed, at)
 }
 
 // The count of a Vec.
-pub fn read_count(s: &[u8], at: usize) -> Read<u8>
+pub(crate) fn read_count(s: &[u8], at: usize) -> Read<u8>
     ensures { answer result ≡ count s.now at }
 {
-    let a = read_byte(s, at);
-    let Read::At(n, _) = a else {
-        return a;
-    };
-    if VEC_LIMIT < n {
-        return refuse(Refusal::LargeCount, at);
-    }
-    a
+    read_byte(s, at).check(|n| n <= VEC_LIMIT, Refusal::LargeCount, at)
 }
 
 // One comparison, and with a number that is the same for all places: it is worked out once.

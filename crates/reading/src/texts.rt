@@ -1,13 +1,14 @@
 // The texts of the file, and the numbers by which the tree names them.
-#![tactic(auto, unfolding(crate::specs::Answers::forget, crate::specs::Section::text_count, crate::specs::Section::of_kind, crate::specs::Section::kind_read, tree::specs::Texts::text, tree::specs::Texts::among, tree::specs::Read::byte, tree::specs::Read::bytes, tree::specs::Read::within, tree::specs::Exprs::text_number, tree::specs::Texts::is_path, tree::specs::Ans::bind, tree::specs::Ans::here, tree::specs::Ans::check, tree::specs::Ans::done, tree::specs::Ans::refuse), using(crate::proofs::Steps::steps, crate::proofs::Named::named))]
+#![tactic(auto, unfolding(crate::specs::Answers::forget, crate::specs::Section::text_count, crate::specs::Section::of_kind, crate::specs::Section::kind_read, tree::specs::Texts::text, tree::specs::Texts::among, tree::specs::Read::byte, tree::specs::Read::bytes, tree::specs::Read::within, tree::specs::Exprs::text_number, tree::specs::Texts::is_path, tree::specs::Ans::bind, tree::specs::Ans::here, tree::specs::Ans::check, tree::specs::Ans::done, tree::specs::Ans::refuse), using(crate::proofs::Steps::steps, crate::proofs::Named::named, crate::proofs::Tested::reads))]
 
 ghost use Rattle.std.specs.Prelude.{◌≡◌, ◌≤◌, ◌<◌, ◌-◌, eqb, not, map, position, length, take, drop};
 ghost use Rattle.std.specs.List.{list_any};
 ghost use Rattle.text.specs.Text.{same};
 ghost use Rattle.tree.specs.Texts.{between, allowed, among, is_name, is_float, is_path, text_at, past};
 ghost use Rattle.tree.specs.Exprs.{text_number};
+ghost use Rattle.tree.specs.Decode.{texts_of};
 ghost use Rattle.reading.specs.Answers.{answer, forget};
-ghost use Rattle.reading.specs.Section.{texts_from, past_texts, text_count, of_kind, kind_read, checksum, slot_of, Gathered};
+ghost use Rattle.reading.specs.Section.{texts_from, past_texts, text_count, of_kind, has_text, kind_read, checksum, slot_of, Gathered};
 ghost use Rattle.tree.specs.Ans.{ok};
 ghost use Rattle.reading.specs.Sources.{in_file};
 
@@ -65,8 +66,8 @@ fn text_at(s: &[u8], at: usize) -> &[u8]
     &s[at + 1..past_text(s, at)]
 }
 
-// Whether a text equals the one at `at`, given the checksums of both. Text and checksum apart: as a struct, 250 texts of one checksum
-// took 9% more.
+// Whether a text equals the one at `at`, given the checksums of both. Text and checksum go apart: in a struct that is copied, reading
+// 250 texts of one checksum took a tenth more instructions.
 #[tactic(auto, using(crate::proofs::Repeated::same_texts))]
 fn is_text(s: &[u8], at: usize, other: u64, x: &[u8], sum: u64) -> bool
     requires at_in_bounds { past s.now at ≤ length s.now }
@@ -119,9 +120,9 @@ fn is_repeated(s: &[u8], x: &[u8], sum: u64, sums: &[u64]) -> bool
 fn read_text(s: &[u8], at: usize) -> Read<Spelling>
     ensures { answer result ≡ kind_read s.now at }
 {
-    let (length, start) = match read_byte(s, at) {
-        Read::At(length, start) => (length, start),
-        Read::Refused(refused) => return Read::Refused(refused),
+    let a = read_byte(s, at);
+    let Read::At(length, start) = a else {
+        return a.map(|_| Spelling::Neither);
     };
     if length == 0 || TEXT_LIMIT < length {
         return refuse(Refusal::NotAllowed, at);
@@ -141,20 +142,12 @@ fn read_text(s: &[u8], at: usize) -> Read<Spelling>
 pub fn read_text_count(s: &[u8]) -> Read<u16>
     ensures { answer result ≡ text_count s.now 0 }
 {
-    let a = read_u16(s, 0);
-    let Read::At(n, _) = a else {
-        return a;
-    };
-    if TEXTS_LIMIT < usize::from(n) {
-        return refuse(Refusal::LargeCount, 0);
-    }
-    a
+    read_u16(s, 0).check(|n| usize::from(n) <= TEXTS_LIMIT, Refusal::LargeCount, 0)
 }
 
 // The `n` texts from `first` on, behind their count. The kind of each is stored.
 pub fn read_texts(s: &[u8], first: usize, n: usize, kinds: &mut [Spelling; TEXTS_LIMIT]) -> Read<()>
-    requires s_value { text_count s.now 0 ≡ ok n first }
-    requires kinds_len { length kinds.old ≡ 256 }
+    requires { text_count s.now 0 ≡ ok n first }
     ensures { Gathered s.now kinds.new n result }
 {
     // Beside the kinds, and not in one struct with them: no one asks for the checksums later, and `has_sum` compares several at once.
@@ -185,28 +178,28 @@ pub fn read_texts(s: &[u8], first: usize, n: usize, kinds: &mut [Spelling; TEXTS
 pub fn read_path(source: &Source, at: usize) -> Read<u16>
     ensures { answer result ≡ in_file (λ t. text_number t is_path) source.now at }
 {
-    let a = read_u16(source.bytes, at);
-    let Read::At(n, _) = a else {
-        return a;
-    };
-    if usize::from(n) < source.kinds.len() {
-        return a;
-    }
-    refuse(Refusal::NotAllowed, at)
+    read_u16(source.bytes, at).check(
+        |n| usize::from(n) < source.kinds.len(),
+        Refusal::NotAllowed,
+        at,
+    )
+}
+
+// Whether there is a text with the number, and of the kind.
+fn is_of_kind(source: &Source, n: u16, kind: Spelling) -> bool
+    ensures { result ≡ has_text (texts_of source.now.bytes.now) (of_kind kind) n }
+{
+    source.kinds.get(usize::from(n)) == Some(&kind)
 }
 
 // A text number whose text is of the kind.
 fn read_spelled(source: &Source, at: usize, kind: Spelling) -> Read<u16>
     ensures { answer result ≡ in_file (λ t. text_number t (of_kind kind)) source.now at }
 {
-    let a = read_path(source, at);
-    let Read::At(n, _) = a else {
-        return a;
-    };
-    if source.kinds[usize::from(n)] == kind {
-        return a;
-    }
-    refuse(Refusal::NotAllowed, at)
+    let test = |n|
+        ensures { result ≡ has_text (texts_of source.entry.now.bytes.now) (of_kind kind) n }
+    { is_of_kind(source, n, kind) };
+    read_u16(source.bytes, at).check(test, Refusal::NotAllowed, at)
 }
 
 pub fn read_name(source: &Source, at: usize) -> Read<u16>

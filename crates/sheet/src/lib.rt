@@ -1,5 +1,6 @@
 // The mark sheet: for each key the place of the measure statement that marked it, or 0.
-// The walk over a tree calls these functions with the keys that it has met; behind them the sheet is blank.
+// The walk over a tree calls these functions with the keys that it has met; behind them the sheet is blank. Sheet and keys go apart:
+// the sheet is an array of 256 places, lent to be written where marks are set, and a struct would hold but the keys and their bound.
 #![tactic(auto)]
 
 mod keys;
@@ -36,7 +37,7 @@ fn met(own: Key, place: u16, key: Key, before: u16) -> u16
     }
 }
 
-// A place of the sheet. The sheet has 0 for none: in fixed memory, and one comparison serves many places at once.
+// A place of the sheet. The sheet has 0 for none: one comparison serves many places at once.
 fn marked(place: u16) -> Option<u16>
     ensures { result ≡ marked place }
 {
@@ -129,7 +130,7 @@ fn store<F: Fn(Key) -> bool>(sheet: &mut [u16; 256], keys: &[Key], place: u16, t
     requires callable { F.IsAlwaysCallable test }
     ensures { (t : MarkKey → Bool) → ((k : Key) (r : Bool) → F.post test k r → r ≡ t (key_of k)) → sheet.new ≡ stored t place (keys_of keys.now) sheet.old }
 {
-    // The place by its number, as in `unite`.
+    // The place by its number: after a zip with iter_mut is over, a proof knows nothing of the places.
     for (k, key) in keys.iter().enumerate() {
         if test(*key) {
             sheet[k] = place;
@@ -167,7 +168,7 @@ pub fn unite(a: &[u16; 256], b: &mut [u16; 256])
     ensures marks { (tree : List ℕ) (ks : List MarkKey) → marks_of tree ks b.new ≡ uniteMarks (marks_of tree ks a.now) (marks_of tree ks b.old) }
     ensures behind { (n : ℕ) → Blank n a.now → Blank n b.old → Blank n b.new }
 {
-    // The other by its number: over a zip of both the proof did not close.
+    // The other by its number: after a zip with iter_mut is over, a proof knows nothing of the places.
     for (i, place) in b.iter_mut().enumerate() {
         *place = either(a[i], *place);
     }

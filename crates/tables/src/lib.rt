@@ -1,5 +1,6 @@
 // The symbols, gates and functions that a walk has met, as tables in the lent scratch. The layout is that of the context's views. The
-// walk lends a scratch of at least 65,536 bytes, names texts by numbers below 256, and has at most 9 scopes.
+// walk lends a scratch of at least 65,536 bytes, names texts by numbers below 256, and has at most 9 scopes. These are clauses and no
+// types: a name is read from the file as two bytes, so a narrower type would need a cast at each, and the scratch goes lent beside values.
 // A caller in C lends plain bytes, so the entries are bytes and not structs.
 #![tactic(auto)]
 
@@ -48,7 +49,8 @@ fn store_span(s: &mut [u8], at: usize, sp: Span)
     s[at + 4..at + 8].copy_from_slice(&sp.end.to_be_bytes());
 }
 
-// The type with a number. Total: a TryFrom would add an error that no stored byte gives. A function and no `From`: the type is of ast.
+// The type with a number. Total: a TryFrom would add an error that no stored byte gives. A name of its own and no `From`: it says which
+// number it is.
 pub fn type_of(n: u8) -> ClassicalType
     ensures { result ≡ type_of n }
 {
@@ -77,7 +79,7 @@ fn kind_of(code: u8) -> SymbolKind
     }
 }
 
-// A function and no `From`: both types are of other crates.
+// The codes are the layout of the entries here: a `From` would not say which number it is.
 fn kind_code(kind: SymbolKind) -> u8
     ensures { result ≡ code_of (kind_of kind) }
 {
@@ -146,15 +148,13 @@ pub fn get(scratch: &[u8], depth: usize, x: usize) -> Option<Symbol>
     requires { (65536 ≤ length scratch.now) × (depth ≤ 9) × (x < 256) }
     ensures { found_of result ≡ get (scopes_of scratch.now depth) x }
 {
-    for level in (0..depth).rev() {
-        if let Some(sym) = symbol_at(scratch, level, x) {
-            return Some(sym);
-        }
-    }
-    None
+    (0..depth)
+        .rev()
+        .find_map(|level| symbol_at(scratch, level, x))
 }
 
 // The symbol of a name in the innermost scope. Most names have none there: the code is looked at before a symbol is read.
+#[tactic(auto, using(crate::proofs::Views::current_none, crate::proofs::Views::current_at))]
 pub fn get_current(scratch: &[u8], depth: usize, x: usize) -> Option<Symbol>
     requires { (65536 ≤ length scratch.now) × (0 < depth) × (depth ≤ 9) × (x < 256) }
     ensures { found_of result ≡ get_current (scopes_of scratch.now depth) x }
@@ -192,6 +192,7 @@ pub fn enter(scratch: &mut [u8], depth: usize)
     scratch[at..at + CODES].fill(0);
 }
 
+#[tactic(auto, using(crate::proofs::Views::gate_none, crate::proofs::Views::gate_some))]
 pub fn gate(scratch: &[u8], x: usize) -> Option<GateSig>
     requires { (65536 ≤ length scratch.now) × (x < 256) }
     ensures { found_gate_of result ≡ gates_of scratch.now x }
@@ -241,6 +242,7 @@ pub fn function(scratch: &[u8], x: usize) -> Option<FunctionSig>
 }
 
 // The type of a function's parameter; `function` says how many there are.
+#[tactic(auto, using(crate::proofs::Views::param_read))]
 pub fn param_type(scratch: &[u8], x: usize, i: usize) -> ClassicalType
     requires { (65536 ≤ length scratch.now) × (x < 256) × (i < length (params_of (functions_of scratch.now x))) }
     ensures { result ≡ get_or (params_of (functions_of scratch.now x)) i ClassicalType.Int }
@@ -248,7 +250,8 @@ pub fn param_type(scratch: &[u8], x: usize, i: usize) -> ClassicalType
     type_of(scratch[FUNCTIONS + x * FUNCTION + 11 + i])
 }
 
-// Copies the type bytes of so many parameters from the tree. By number: it is every third byte.
+// Copies the type bytes of so many parameters from the tree, every third byte. By number: after a zip with iter_mut is over, a proof
+// knows nothing of what was stored.
 fn store_types(s: &mut [u8], to: usize, tree: &[u8], at: usize, count: usize)
     requires { (to + count ≤ length s.old) × (at + 3 * count ≤ length tree.now) }
     ensures { s.new ≡ sets s.old to (type_bytes tree.now at count) }

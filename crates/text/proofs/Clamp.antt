@@ -1,15 +1,11 @@
--- Parts at the ends of a list. Assumes nothing.
+-- A part at the end of a list. Assumes nothing.
 use Prim.Native.Nat.{ℕ, ◌≤◌, ◌-◌}
 use mathlib.Core.Path.{◌≡◌}
-use mathlib.Core.List.{List, []}
+use mathlib.Core.List.{List}
 use native.Mathlib.Omega.{arith}
 use lib.ListN.{length, drop, length-drop}
 use lib.Seq.{take_all}
 use Rattle.text.specs.Text.{part}
-
--- where it starts at its end or later, it has nothing
-pub none_of : (l : List ℕ) (a e : ℕ) → e ≤ a → part a e l ≡ []
-none_of l a e h = let z : e - a ≡ 0 = omega arith in rw z
 
 -- where it ends past the list, it has the rest
 pub rest_of : (l : List ℕ) (a e : ℕ) → length l ≤ e → part a e l ≡ drop a l

@@ -4,7 +4,6 @@ use mathlib.Core.Path.{◌≡◌, refl, sym, subst}
 use mathlib.Core.Bool.{true}
 use mathlib.Core.List.{List, [], ◌∷◌}
 use lib.Dec.{T, eqb, eqb→eq}
-use borrow.Author.Tests.{eq-eqb}
 use Rattle.text.proofs.Tests.{and_both}
 use Rattle.text.specs.Text.{same}
 
@@ -17,10 +16,3 @@ equal (x ∷ xs) (y ∷ ys) t =
 
 pub same-eq : (x y : List ℕ) → same x y ≡ true → x ≡ y
 same-eq x y e = equal x y (subst T (sym e) tt)
-
-pub same_refl : (x : List ℕ) → same x x ≡ true
-same_refl [] = refl
-same_refl (x ∷ xs) = rw (eq-eqb x x refl) (same_refl xs)
-
-pub eq-same : {x y : List ℕ} → x ≡ y → same x y ≡ true
-eq-same {x} {y} e = rw e (same_refl y)

@@ -5,9 +5,6 @@ use refusal::Refused;
 use std::io;
 use std::io::Write;
 
-// More cases than the input has.
-const CASES: usize = 10000;
-
 fn print<W: Write>(out: &mut W, answer: Result<(), Refused>) -> io::Result<()> {
     match answer {
         Ok(()) => writeln!(out, "accepted"),
@@ -17,13 +14,10 @@ fn print<W: Write>(out: &mut W, answer: Result<(), Refused>) -> io::Result<()> {
 
 fn main(rt: HostRuntime) -> io::Result<()> {
     let mut space = [0u8; 65536];
-    let mut input = rt.stdin();
     let mut out = rt.stdout();
-    for _ in 0..CASES {
-        let Some(n) = cases::next(&mut input, &mut space)? else {
-            break;
-        };
-        print(&mut out, reader::validate(&space[..n]))?;
-    }
-    Ok(())
+    cases::each(
+        &mut rt.stdin(),
+        &mut space,
+        |tree| print(&mut out, reader::validate(tree)),
+    )
 }

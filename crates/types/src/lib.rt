@@ -15,8 +15,8 @@ const ASSIGNABLE: [[bool; 5]; 5] = [
     [false, false, false, false, true],
 ];
 
-// The number of a type, as in a tree file. By `as`, since a match would say the order of the cases once more. A function and no `From`:
-// the type is of ast.
+// The number of a type, as in a tree file. By `as`, since a match would say the order of the cases once more.
+// A name of its own and no `From`: it says which number it is.
 pub fn number(ty: ClassicalType) -> u8
     ensures { (result ≡ number_of ty) × (result < 5) }
 {

@@ -1,9 +1,9 @@
 -- Statements by their case byte. Assumes nothing.
 use Prim.Native.Nat.{ℕ, ◌≤◌, ◌<◌}
 use mathlib.Core.Path.{◌≡◌}
-use mathlib.Core.Bool.{true, false, not, and-true, and-false, and-eq-true_iff}
+use mathlib.Core.Bool.{true, false, not, and-eq-true_iff}
 use lib.Dec.{eqb, ltb}
-use borrow.Author.Tests.{lt-ltb, le-ltb, ltb-true, ltb-false, ne_eqb, eqb-false, not-true}
+use borrow.Author.Tests.{ltb-true, ltb-false, ne_eqb, eqb-false, not-true}
 use Rattle.walk.specs.Bodies.{is_plain}
 
 -- what a plain statement is not

@@ -4,7 +4,6 @@
 #![tactic(auto)]
 
 ghost use Rattle.std.specs.Prelude.{◌≡◌, true, false, ℕ, ◌-◌, ◌≤◌, length, get_or};
-ghost use Rattle.tree.specs.Ans.{IsOk};
 ghost use Rattle.tree.specs.Stmts.{stmt};
 ghost use Rattle.tree.specs.Decode.{texts_of};
 ghost use Rattle.context.specs.View.{keys_in, keys_of, scopes_of};
@@ -15,7 +14,7 @@ ghost use Rattle.promises.specs.Went.{stmt_keys, StmtAsked, BodyAsked, StmtWent,
 ghost use Rattle.walk.specs.Bodies.{moved_to, stepped, is_plain, LoopAsked, ElseAsked, LoopWent, ElseWent};
 
 use accepted::numbers::u16_at;
-use context::{After, Index, Key, Sink, State, Texts};
+use context::{After, Index, Key, Sink, State, StmtAt, Texts};
 
 // What a statement without statements in it leaves beside the marks: the place past it, the listing, how many keys there are.
 #[derive(Clone, Copy)]
@@ -48,7 +47,12 @@ fn gate_def(
     requires { StmtAsked texts.tree.now index.old left st scratch.old × (get_or texts.tree.now st.at 0 ≡ 6) }
     ensures { StmtWent texts.entry.tree.now left st index.old scratch.old out.old result index.new scratch.new out.new }
 {
-    let a = bodies::open_gate(texts, scratch, out, left, st.at, st.sink);
+    let here = StmtAt {
+        texts,
+        left,
+        at: st.at,
+    };
+    let a = bodies::open_gate(here, scratch, out, st.sink);
     let s = moved(st, a);
     let mut r = analyze_stmts(texts, index, scratch, out, left - 1, s)?;
     r.at += 8;
@@ -67,7 +71,12 @@ fn branch(
     requires { StmtAsked texts.tree.now index.old left st scratch.old × (get_or texts.tree.now st.at 0 ≡ 12) }
     ensures { StmtWent texts.entry.tree.now left st index.old scratch.old out.old result index.new scratch.new out.new }
 {
-    let a = bodies::open_if(texts, scratch, out, left, st.at, st.sink);
+    let here = StmtAt {
+        texts,
+        left,
+        at: st.at,
+    };
+    let a = bodies::open_if(here, scratch, out, st.sink);
     let s = moved(st, a);
     let t = analyze_stmts(texts, index, scratch, out, left - 1, s)?;
     branch_else(texts, index, scratch, out, left, &st.marks, t)
@@ -119,7 +128,12 @@ fn for_loop(
     requires { StmtAsked texts.tree.now index.old left st scratch.old × (get_or texts.tree.now st.at 0 ≡ 13) }
     ensures { StmtWent texts.entry.tree.now left st index.old scratch.old out.old result index.new scratch.new out.new }
 {
-    let a = bodies::open_for(texts, scratch, out, left, st.at, st.sink);
+    let here = StmtAt {
+        texts,
+        left,
+        at: st.at,
+    };
+    let a = bodies::open_for(here, scratch, out, st.sink);
     let s = moved(st, a);
     loop_body(texts, index, scratch, out, left - 1, s)
 }
@@ -136,7 +150,12 @@ fn while_loop(
     requires { StmtAsked texts.tree.now index.old left st scratch.old × (get_or texts.tree.now st.at 0 ≡ 14) }
     ensures { StmtWent texts.entry.tree.now left st index.old scratch.old out.old result index.new scratch.new out.new }
 {
-    let a = bodies::open_while(texts, scratch, out, left, st.at, st.sink);
+    let here = StmtAt {
+        texts,
+        left,
+        at: st.at,
+    };
+    let a = bodies::open_while(here, scratch, out, st.sink);
     let s = moved(st, a);
     loop_body(texts, index, scratch, out, left - 1, s)
 }
@@ -160,7 +179,7 @@ fn loop_body(
     Some(r)
 }
 
-// Has the statement with this case byte no statements in it? A gate definition, an `if` and a loop have.
+// Has the statement with this case byte no statements in it? A gate definition, an `if` and a loop have. By the byte, as the matches.
 #[tactic(auto, unfolding(crate::specs::Bodies::is_plain))]
 fn is_plain(case: u8) -> bool
     ensures { result ≡ is_plain case }
@@ -170,72 +189,62 @@ fn is_plain(case: u8) -> bool
 
 // A statement without statements in it, whose keys are there.
 fn plain_stmt(
-    texts: Texts<'_>,
+    here: StmtAt<'_>,
     keys: &[Key],
     scratch: &mut [u8],
     out: &mut [u8],
-    left: usize,
     marks: &mut [u16; 256],
-    at: usize,
     sink: Sink,
 ) -> After
-    requires walkable { Walkable texts.tree.now keys.now × Ready texts.tree.now scratch.old (state_of at sink marks.old) × IsOk (stmt (texts_of texts.tree.now) left texts.tree.now at) × (left ≤ 8) × (is_plain (get_or texts.tree.now at 0) ≡ true) }
-    requires stmt_keyed { StmtKeyed (keys_of keys.now) (scopes_of scratch.old (9 - left)) (stmt (texts_of texts.tree.now) left texts.tree.now at) }
-    ensures walked { StmtWalked texts.entry.tree.now (keys_of keys.now) left (state_of at sink marks.old) scratch.old out.old (state_of result.next result.sink marks.new) scratch.new out.new }
+    requires walkable { Walkable here.texts.tree.now keys.now × Ready here.texts.tree.now scratch.old (state_of here.at sink marks.old) × (is_plain (get_or here.texts.tree.now here.at 0) ≡ true) }
+    requires stmt_keyed { StmtKeyed (keys_of keys.now) (scopes_of scratch.old (9 - here.left)) (stmt (texts_of here.texts.tree.now) here.left here.texts.tree.now here.at) }
+    ensures walked { StmtWalked here.entry.texts.tree.now (keys_of keys.now) here.entry.left (state_of here.entry.at sink marks.old) scratch.old out.old (state_of result.next result.sink marks.new) scratch.new out.new }
     ensures behind { (n : ℕ) → length keys.now ≤ n → Blank n marks.old → Blank n marks.new }
 {
     // By the case byte: an enum with a conversion would say each case twice.
-    match texts.tree[at] {
-        0 => operations::include(texts.tree, scratch, out, left, at, sink),
-        1 => declarations::qubit_decl(texts, scratch, out, left, at, sink),
-        2 => declarations::bit_decl(texts, scratch, out, left, at, sink),
-        3 => declarations::classical_decl(texts, scratch, out, left, at, sink),
-        4 => declarations::assignment(texts, scratch, out, left, at, sink),
-        5 => operations::gate_call(texts, keys, scratch, out, left, marks, at, sink),
-        7 => declarations::function_def(texts, scratch, out, left, at, sink),
-        8 => operations::measure(texts, keys, scratch, out, left, marks, at, sink),
-        9 => operations::reset(texts, keys, scratch, out, left, marks, at, sink),
-        10 => operations::barrier(texts, keys, scratch, out, left, marks, at, sink),
-        _ => operations::delay(texts, keys, scratch, out, left, marks, at, sink),
+    match here.texts.tree[here.at] {
+        0 => operations::include(here, scratch, out, sink),
+        1 => declarations::qubit_decl(here, scratch, out, sink),
+        2 => declarations::bit_decl(here, scratch, out, sink),
+        3 => declarations::classical_decl(here, scratch, out, sink),
+        4 => declarations::assignment(here, scratch, out, sink),
+        5 => operations::gate_call(here, keys, scratch, out, marks, sink),
+        7 => declarations::function_def(here, scratch, out, sink),
+        8 => operations::measure(here, keys, scratch, out, marks, sink),
+        9 => operations::reset(here, keys, scratch, out, marks, sink),
+        10 => operations::barrier(here, keys, scratch, out, marks, sink),
+        _ => operations::delay(here, keys, scratch, out, marks, sink),
     }
 }
 
 // Puts the keys of a measure statement into the index: how many there are then, or None where they are too many.
-fn keys_with(
-    texts: Texts<'_>,
-    index: &mut Index,
-    scratch: &[u8],
-    keys: usize,
-    left: usize,
-    at: usize,
-) -> Option<usize>
-    requires { Indexed index.old keys × (65536 ≤ length scratch.now) × IsOk (stmt (texts_of texts.tree.now) left texts.tree.now at) × (left ≤ 8) × (is_plain (get_or texts.tree.now at 0) ≡ true) }
-    ensures added { Grown index.new result (stmt_keys (stmt (texts_of texts.entry.tree.now) left texts.entry.tree.now at) (scopes_of scratch.now (9 - left)) (keys_in index.old keys)) }
+fn keys_with(here: StmtAt<'_>, index: &mut Index, scratch: &[u8], keys: usize) -> Option<usize>
+    requires { Indexed index.old keys × (65536 ≤ length scratch.now) × (is_plain (get_or here.texts.tree.now here.at 0) ≡ true) }
+    ensures added { Grown index.new result (stmt_keys (stmt (texts_of here.entry.texts.tree.now) here.entry.left here.entry.texts.tree.now here.entry.at) (scopes_of scratch.now (9 - here.entry.left)) (keys_in index.old keys)) }
     ensures index { length index.new ≡ length index.old }
 {
-    if texts.tree[at] == 8 {
-        return operations::add_keys(texts.tree, index, scratch, keys, left, at);
+    // A measure statement, by the case byte, as the matches.
+    if here.texts.tree[here.at] == 8 {
+        return operations::add_keys(here.texts.tree, index, scratch, keys, here.left, here.at);
     }
     Some(keys)
 }
 
 // Such a statement, its keys first. Where they are too many, nothing more is done.
 fn keyed_stmt(
-    texts: Texts<'_>,
+    here: StmtAt<'_>,
     index: &mut Index,
     scratch: &mut [u8],
     out: &mut [u8],
     keys: usize,
-    left: usize,
     marks: &mut [u16; 256],
-    at: usize,
     sink: Sink,
 ) -> Option<Step>
-    requires { StmtAsked texts.tree.now index.old left (record { at = at; sink = sink; keys = keys; marks = marks.old }) scratch.old × (is_plain (get_or texts.tree.now at 0) ≡ true) }
-    ensures { StmtWent texts.entry.tree.now left (record { at = at; sink = sink; keys = keys; marks = marks.old }) index.old scratch.old out.old (stepped result marks.new) index.new scratch.new out.new }
+    requires { StmtAsked here.texts.tree.now index.old here.left (record { at = here.at; sink = sink; keys = keys; marks = marks.old }) scratch.old × (is_plain (get_or here.texts.tree.now here.at 0) ≡ true) }
+    ensures { StmtWent here.entry.texts.tree.now here.entry.left (record { at = here.entry.at; sink = sink; keys = keys; marks = marks.old }) index.old scratch.old out.old (stepped result marks.new) index.new scratch.new out.new }
 {
-    let count = keys_with(texts, index, scratch, keys, left, at)?;
-    let a = plain_stmt(texts, &index[..count], scratch, out, left, marks, at, sink);
+    let count = keys_with(here, index, scratch, keys)?;
+    let a = plain_stmt(here, &index[..count], scratch, out, marks, sink);
     Some(Step {
         next: a.next,
         sink: a.sink,
@@ -286,18 +295,9 @@ pub fn analyze_stmts(
     let mut sink = s.sink;
     for _ in 0..n {
         if is_plain(texts.tree[k]) {
+            let here = StmtAt { texts, left, at: k };
             let keys = s.keys;
-            let a = keyed_stmt(
-                texts,
-                index,
-                scratch,
-                out,
-                keys,
-                left,
-                &mut s.marks,
-                k,
-                sink,
-            )?;
+            let a = keyed_stmt(here, index, scratch, out, keys, &mut s.marks, sink)?;
             sink = a.sink;
             k = a.next;
             s.keys = a.keys;

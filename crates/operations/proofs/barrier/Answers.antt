@@ -6,10 +6,10 @@ use native.Mathlib.Omega.{arith}
 use Rattle.operations.proofs.barrier.Goals as goal
 
 pub use_targets-a-requires : goal.use_targets-a-requires
-use_targets-a-requires c = let s = c.requires in (barrier_targets _ _ _ _ s.2 s.4, barrier-inside _ _ _ _ s.2 s.4 _ refl)
+use_targets-a-requires c = let h = c.args.here.accepted in rw c.context-sema.ensures.0 (barrier_targets _ _ _ _ h c.requires.2, barrier-inside _ _ _ _ h c.requires.2 _ refl)
 
 pub overflow_add-result : goal.overflow_add-result
-overflow_add-result c = let s = c in let i = barrier-inside _ _ _ _ s.requires.2 s.requires.4 _ c.use_targets-a.ensures.next in omega arith
+overflow_add-result c = let i = barrier-inside _ _ _ _ c.args.here.accepted c.requires.2 _ (rw c.context-sema.ensures.0 at c.use_targets-a.ensures.next) in omega arith
 
 pub returns : goal.returns
-returns c = let s = c in barrier-walked _ _ _ (state_of s.args.at s.args.sink _) s.requires.2 s.requires.1 s.requires.4 _ c.use_targets-a.ensures
+returns c = let s = c.context-sema.ensures in barrier-walked _ _ _ (state_of c.args.here.at c.args.sink _) c.args.here.accepted c.requires.1 c.requires.2 _ (rw (s.0, s.1, s.2) at c.use_targets-a.ensures)

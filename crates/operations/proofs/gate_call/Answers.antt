@@ -5,16 +5,16 @@ use native.Mathlib.Omega.{arith}
 use Rattle.operations.proofs.gate_call.Goals as goal
 
 pub check_signature-named-requires : goal.check_signature-named-requires
-check_signature-named-requires c = let p = c.requires in let a = c.call_at-call in (call-name _ _ _ p.2 p.4 a.result a.ensures)
+check_signature-named-requires c = let a = c.call_at-call in rw c.context-sema.ensures.0 (call-name _ _ _ c.args.here.accepted c.requires.2 a.result a.ensures)
 
 pub check_values-checked-requires : goal.check_values-checked-requires
-check_values-checked-requires c = let p = c.requires in let a = c.call_at-call in (gate_call-modifiers _ _ _ _ p.2 p.4, call-params _ _ _ p.2 p.4 a.result a.ensures)
+check_values-checked-requires c = let h = c.args.here.accepted in let a = c.call_at-call in rw c.context-sema.ensures.0 (gate_call-modifiers _ _ _ _ h c.requires.2, call-params _ _ _ h c.requires.2 a.result a.ensures)
 
 pub check_args-said-requires : goal.check_args-said-requires
-check_args-said-requires c = let p = c.requires in let a = c.call_at-call in (call-args _ _ _ p.2 p.4 a.result a.ensures)
+check_args-said-requires c = let a = c.call_at-call in rw c.context-sema.ensures.0 (call-args _ _ _ c.args.here.accepted c.requires.2 a.result a.ensures)
 
 pub overflow_add-result : goal.overflow_add-result
-overflow_add-result c = let p = c.requires in let a = c.call_at-call in let i = call_in _ _ _ p.2 p.4 a.result a.ensures in omega arith
+overflow_add-result c = let a = c.call_at-call in let i = call_in _ _ _ c.args.here.accepted c.requires.2 a.result a.ensures in omega arith
 
 pub returns : goal.returns
-returns c = let s = c in let p = s.requires in let a = c.call_at-call in call-walked _ _ _ (state_of s.args.at s.args.sink _) p.2 p.4 a.result a.ensures p.1 c.check_signature-named.ensures c.check_values-checked.ensures c.check_args-said.ensures
+returns c = let s = c.context-sema.ensures in let a = c.call_at-call in call-walked _ _ _ (state_of c.args.here.at c.args.sink _) c.args.here.accepted c.requires.2 a.result a.ensures c.requires.1 (rw (s.0, s.1) at c.check_signature-named.ensures) (rw (s.0, s.1, s.2) at c.check_values-checked.ensures) (rw (s.0, s.1, s.2) at c.check_args-said.ensures)

@@ -6,7 +6,7 @@ use Rattle.promises.specs.WalkLaws.{passed-ready}
 use Rattle.operations.proofs.include.Goals as goal
 
 pub overflow_add-result : goal.overflow_add-result
-overflow_add-result c = let i = include-inside _ _ _ _ c.requires.1 c.requires.3 in omega arith
+overflow_add-result c = let i = include-inside _ _ _ _ c.args.here.accepted c.requires.1 in omega arith
 
 pub returns : goal.returns
-returns c = λ ks marks placed. include-walked _ ks _ (state_of _ _ marks) c.requires.1 (passed-ready c.requires.0 placed) c.requires.3
+returns c = λ ks marks placed. include-walked _ ks _ (state_of _ _ marks) c.args.here.accepted (passed-ready c.requires.0 placed) c.requires.1

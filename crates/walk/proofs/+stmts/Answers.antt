@@ -25,6 +25,9 @@ analyze_stmts-loop-init t c = going_start c.requires _ (omega (arith, c.u16_at-n
 pub analyze_stmts-bounds-texts-k : goal.analyze_stmts-bounds-texts-k
 analyze_stmts-bounds-texts-k t c = stmt_in _ _ _ _ (going_stmt c.loop.invariant (omega arith))
 
+pub analyze_stmts-invariant_of-here-clause-accepted : goal.analyze_stmts-invariant_of-here-clause-accepted
+analyze_stmts-invariant_of-here-clause-accepted t c = going_stmt c.loop.invariant (omega arith)
+
 pub analyze_stmts-keyed_stmt-requires : goal.analyze_stmts-keyed_stmt-requires
 analyze_stmts-keyed_stmt-requires t c = (going_asked c.loop.invariant (omega arith) c.requires.shallow, sym c.is_plain.ensures ∙ c.if-is_plain.true)
 

@@ -1,11 +1,10 @@
-use Rattle.std.proofs.Common.{ℕ, zero, suc, ◌<◌, ◌≡◌, ◌⊎◌, refl, sym, arith, rules}
+use Rattle.std.proofs.Common.{ℕ, zero, suc, ◌<◌, ◌≡◌, ◌⊎◌, refl, sym, arith}
 use mathlib.Core.Logic.{inl, inr}
 use Rattle.accepted.specs.Parts.{next_is}
 use Rattle.accepted.specs.Remains.{remains-first, remains-step, remains-done}
 use Rattle.accepted.specs.Bodies.{body_in, body-started, stmt_in, stmt-left}
 use Rattle.accepted.specs.Stmts.{include-inside, include_is, register-size, register-inside, register-next, assignment-value, assignment-inside, assignment_is, reset_target, reset-inside, reset_is, barrier_targets, barrier-inside, barrier_is}
 use Rattle.accepted.specs.Compound.{compound-body, compound_else, compound-next, compound-inside, if-next, if-inside}
-use Rattle.accepted.proofs.SkipParts.{else-past}
 use Rattle.accepted.proofs.stmts.+skip_body_skip_compound_skip_else_skip_stmt.Goals as goal
 
 -- the case bytes of registers
@@ -53,9 +52,6 @@ skip_compound-overflow_add-result-2 t c = let p = c.requires in let i = compound
 
 pub skip_compound-returns : goal.skip_compound-returns
 skip_compound-returns t c = let p = c.requires in compound-next _ _ _ _ p.0 p.1 _ c.body_place-k.ensures _ c.skip_body-m.ensures c.if-s-at-eq12.false
-
-pub skip_else-returns : goal.skip_else-returns
-skip_else-returns t c = else-past _ _ _ c.requires _ c.skip_option.ensures.none (λ z. let e = c.skip_option.ensures.some z in search rules)
 
 pub skip_stmt-bounds-s-at : goal.skip_stmt-bounds-s-at
 skip_stmt-bounds-s-at t c = stmt_in _ _ _ _ c.requires

@@ -1,6 +1,6 @@
 use Rattle.std.proofs.Common.{refl, arith}
 use Rattle.sema.specs.Messages.{message_parts}
-use Rattle.lines.proofs.Lines.{message-said, said-all, then_said, said-end}
+use Rattle.lines.proofs.Lines.{message-said, said-all, shown-said, then_said, said-end}
 use Rattle.lines.proofs.messages.store_message.Goals as goal
 
 pub returns-in-AlreadyDeclared : goal.returns-in-AlreadyDeclared
@@ -129,7 +129,7 @@ returns-in-PowerNumeric c = message-said _ c.in-PowerNumeric.is (said-all c.copy
 
 pub returns-in-MustHaveType : goal.returns-in-MustHaveType
 unfolding message_parts
-returns-in-MustHaveType c = message-said _ c.in-MustHaveType.is (then_said c.say-p-in-MustHaveType.ensures (then_said c.say-q-in-MustHaveType.ensures (said-end c.say-in-MustHaveType.ensures))) refl (omega arith)
+returns-in-MustHaveType c = message-said _ c.in-MustHaveType.is (then_said (shown-said c.place_name.ensures c.copy-p.ensures) (then_said c.say-q-in-MustHaveType.ensures (said-end c.say-in-MustHaveType.ensures))) refl (omega arith)
 
 pub returns-in-NotClassical : goal.returns-in-NotClassical
 unfolding message_parts

@@ -4,7 +4,7 @@ use Rattle.reading.proofs.texts.read_texts.Goals as goal
 use Rattle.reading.proofs.texts.read_texts.Goals.{else-met-slot-via-then-met-slot+else-is_repeated, else-met-slot-via-else-met-slot}
 
 pub loop-i-init : goal.loop-i-init
-loop-i-init c = going_start _ _ _ _ _ _ c.requires.s_value c.requires.kinds_len (search rules) (search rules)
+loop-i-init c = going_start _ _ _ _ _ _ c.requires (search rules) (search rules) (search rules)
 
 pub returns-in_default : goal.returns-in_default
 returns-in_default c = going_refused _ _ _ _ _ _ _ c.loop-i.invariant c.loop-i-test.true _ _ c.read_text-a.ensures c.in_default.is _ c.into_place.ensures
