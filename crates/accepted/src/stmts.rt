@@ -1,4 +1,4 @@
-// Steps over statements and bodies: sizes added by the case byte.
+// Steps over statements and bodies: sizes added by the case byte. Plain parameters: a `StmtAt` would ask for the places of the texts too.
 ghost use Rattle.std.specs.Prelude.{◌≡◌, get_or};
 ghost use Rattle.tree.specs.Ans.{IsOk, next_of};
 ghost use Rattle.tree.specs.Stmts.{body, else_body, stmt};

@@ -1,5 +1,5 @@
 // A reader of a tree: the bytes and a place in them. Each function is thin over one that takes the bytes and the place.
-// Functions over larger parts take the two as plain parameters, as the covered functions do: a reader would be copied at each call.
+// It has few thin functions: those over larger parts take the two as plain parameters, as the ones that it covers do.
 ghost use Rattle.std.specs.Prelude.{◌≡◌, ◌+◌, ◌≤◌, ◌<◌, length, get_or};
 ghost use Rattle.context.specs.View.{number_at, span_at};
 

@@ -9,7 +9,7 @@ ghost use Rattle.cases.specs.Case.{size_of, length_bytes, Taken, Given};
 use std::io;
 use std::io::Read;
 
-// More cases than an input has. The loop has a bound, since nothing says that an input ends.
+// So many trees at most: the loop has a bound, since nothing says that an input ends.
 const CASES: usize = 10000;
 
 // Reads until the buffer is full or the input ends: how many bytes were read. (`read_exact` fails where the input ends.)
@@ -56,7 +56,7 @@ pub fn next<R: Read>(input: &mut R, space: &mut [u8]) -> io::Result<Option<usize
     Ok(Some(n))
 }
 
-// Gives the trees to the closure, one after the other.
+// Gives the trees, at most `CASES`, to the closure, one after the other.
 pub fn each<R: Read, F: FnMut(&[u8]) -> io::Result<()>>(
     input: &mut R,
     space: &mut [u8],

@@ -1,4 +1,4 @@
-// A statement of a tree.
+// Where a statement stands.
 ghost use Rattle.std.specs.Prelude.{◌≡◌, ◌-◌, ◌≤◌, length};
 ghost use Rattle.tree.specs.Ans.{IsOk};
 ghost use Rattle.tree.specs.Stmts.{stmt};
@@ -7,7 +7,7 @@ ghost use Rattle.context.specs.Props.{ok_once};
 
 use crate::{SemaContext, Texts};
 
-// Its place, and how many levels of bodies there may be from it on.
+// The tree with the places of its texts, the statement's place, and how many levels of statements are left there.
 #[derive(Clone, Copy)]
 pub struct StmtAt<'a> {
     pub texts: Texts<'a>,
@@ -18,7 +18,7 @@ pub struct StmtAt<'a> {
 }
 
 impl<'a> StmtAt<'a> {
-    // What it is checked in.
+    // The context that it is checked in.
     pub fn context(self, scratch: &'a [u8]) -> SemaContext<'a>
         requires { 65536 ≤ length scratch.now }
         ensures { (result.texts ≡ self.entry.texts) × (result.scratch ≡ scratch.entry) × (result.depth ≡ 9 - self.entry.left) }

@@ -95,7 +95,7 @@ fn read_neg(source: &Source, at: usize, left: usize) -> Read<()>
     read_expr(source, at, left).then_span(source.bytes)
 }
 
-// The operator behind this case byte: one of five in an operation, of six in a comparison.
+// The operator behind this case byte: one of five in an operation, of six in a comparison. By the byte, as the match below.
 fn read_operator(s: &[u8], at: usize, case: u8) -> Read<u8>
     ensures binary { case ≡ 8 → answer result ≡ case_byte 5 s.now at }
     ensures compare { (case ≡ 8 → ⊥) → answer result ≡ case_byte 6 s.now at }

@@ -4,6 +4,7 @@
 use std::io;
 use std::io::Write;
 
+// Prints the checker's answer to one tree.
 fn list<W: Write>(
     out: &mut W,
     tree: &[u8],

@@ -50,8 +50,8 @@ fn use_targets(m: Measured<'_, '_>, out: &mut [u8], at: usize, sink: Sink) -> Af
     After { next, sink: s }
 }
 
-// A barrier uses its operands. `Measured` is made here and in the two others: lent by the walk, it would be made in three arms of its
-// match, and its depth would be a clause beside `left`.
+// A barrier uses its operands. `Measured` is made here and where else it is used: lent by the walk, it would be made in the arms of its
+// match.
 pub fn barrier<'a>(
     here: StmtAt<'a>,
     keys: &'a [Key],

@@ -146,7 +146,8 @@ fn read_else(source: &Source, at: usize, left: usize) -> Read<()>
     read_option(source.bytes, at, read)
 }
 
-// Statements behind their count. A loop of its own: the count has two bytes, in a Vec one.
+// Statements behind their count. A loop of its own: the count has two bytes; by a closure, as in a Vec, it took a twenty-fifth more
+// instructions.
 #[cycle(bodies)]
 #[tactic(auto, unfolding(reading::specs::Answers::forget), using(reading::proofs::Held::vecs, crate::proofs::Cases::bodies))]
 pub fn read_body(source: &Source, at: usize, left: usize) -> Read<()>

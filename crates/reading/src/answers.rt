@@ -8,7 +8,7 @@ ghost use Rattle.reading.specs.Answers.{answer, forget, tested, Mapped};
 
 use refusal::{Refusal, Refused};
 
-// An enum and no Result: each read is taken apart by `let .. else` and its refusal passed up.
+// An enum and no Result: a read is taken apart by `let .. else` and its refusal passed up, or tested by `check`.
 #[derive(Clone, Copy)]
 pub enum Read<T> {
     At(T, usize),
@@ -32,7 +32,7 @@ impl<T: Copy> Read<T> {
         }
     }
 
-    // The value, if it passes the test.
+    // The value, if it passes the test. By `match`: of a read that is given back behind `let .. else` the borrow check knows too little.
     pub(crate) fn check<F: FnOnce(T) -> bool>(
         self,
         test: F,

@@ -1,5 +1,5 @@
 // What statements do to the scopes in the scratch: declarations, and the scopes that bodies begin with. The callers have seen the whole
-// file accepted, so that names are numbers below 256.
+// file accepted, so that names are numbers below 256. Parameters and clauses are plain, as those of tables and of accepted.
 #![tactic(auto)]
 
 ghost use Rattle.std.specs.Prelude.{◌≡◌, [], ◌∷◌, map, ℕ, suc, ◌≤◌, ◌<◌, length, get_or};

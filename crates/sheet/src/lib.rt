@@ -1,6 +1,6 @@
 // The mark sheet: for each key the place of the measure statement that marked it, or 0.
 // The walk over a tree calls these functions with the keys that it has met; behind them the sheet is blank. Sheet and keys go apart:
-// the sheet is an array of 256 places, lent to be written where marks are set, and a struct would hold but the keys and their bound.
+// the sheet is an array of 256 places, lent to be written where marks are set; a struct would hold only the keys and their bound.
 #![tactic(auto)]
 
 mod keys;

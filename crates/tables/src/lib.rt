@@ -1,6 +1,7 @@
 // The symbols, gates and functions that a walk has met, as tables in the lent scratch. The layout is that of the context's views. The
 // walk lends a scratch of at least 65,536 bytes, names texts by numbers below 256, and has at most 9 scopes. These are clauses and no
-// types: a name is read from the file as two bytes, so a narrower type would need a cast at each, and the scratch goes lent beside values.
+// types: a name is read from the file as two bytes, so a narrower type would need a cast at each; the scratch is lent, and what is known
+// of it goes by value beside it.
 // A caller in C lends plain bytes, so the entries are bytes and not structs.
 #![tactic(auto)]
 
