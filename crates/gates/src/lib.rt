@@ -28,13 +28,21 @@ fn standard_gate(name: &[u8]) -> Option<StandardGate>
     Some(StandardGate { params, qubits })
 }
 
-#[tactic(auto, using(crate::proofs::Names::lowered_is, crate::proofs::Names::long_lowered))]
+// The letters A to Z lowered.
+#[tactic(auto, using(crate::proofs::Names::lowered_is))]
+fn lower_letters(name: &mut [u8])
+    ensures { name.new ≡ map lower name.old }
+{
+    name.make_ascii_lowercase();
+}
+
+#[tactic(auto, using(crate::proofs::Names::long_lowered))]
 pub fn standard_gate_signature(name: &[u8]) -> Option<StandardGate>
     ensures { result ≡ signature_of (map lower name.now) }
 {
     let mut buffer = [0u8; 6];
     let lowered = buffer.get_mut(..name.len())?;
     lowered.copy_from_slice(name);
-    lowered.make_ascii_lowercase();
+    lower_letters(lowered);
     standard_gate(lowered)
 }

@@ -3,7 +3,7 @@ use Prim.Native.Nat.{ℕ, zero, suc, ◌+◌, ◌-◌, ◌≤◌, ◌<◌, min}
 use mathlib.Core.Path.{◌≡◌, refl, sym, ap, ◌∙◌}
 use mathlib.Core.List.{List, [], ◌∷◌}
 use mathlib.Core.Option.{some}
-use mathlib.Core.Bool.{Bool, true, false}
+use mathlib.Core.Bool.{Bool, true, false, ◌&&◌}
 use native.Mathlib.Omega.{arith}
 use lib.ListN.{length, take, set}
 use Rattle.sema.specs.Marks.{Key, key}
@@ -17,11 +17,27 @@ use Rattle.std.proofs.lemmas.List.Quantifiers.{position-Some}
 use Rattle.std.proofs.lemmas.Iterator.Adapters.{position_from-zero}
 use Rattle.sheet.proofs.Tests.{same_is}
 use Rattle.sheet.proofs.Loops.{nth}
-use Rattle.std.specs.Prelude.{Option as Maybe, Some, None, unwrap_or}
-use Rattle.std.specs.Option.{is_some}
+use Rattle.std.specs.Prelude.{Option as Maybe, Some, None, unwrap_or, eqb}
+use Rattle.std.specs.Option.{is_some, option_eq}
 use Rattle.sheet.specs.Sheet.{Indexed, same, Grown}
 use Rattle.sheet.specs.Places.{by_test, has_here, has_there}
 use Rattle.sheet.specs.Table.{length-keys, add-there, add-new, length-new, AtLeast, more-long, keep-indices, keys-stored}
+
+-- keys are the same by their index and their name
+and_swap : (a b : Bool) → (a && b) ≡ (b && a)
+and_swap true true = refl
+and_swap true false = refl
+and_swap false true = refl
+and_swap false false = refl
+
+first_by_index : (l : KeyValue) (i : ℕ) (ks : List KeyValue) → position_from (λ k. option_eq eqb k.index l.index && eqb k.name l.name) i ks ≡ position_from (λ k. same k l) i ks
+first_by_index l i [] = refl
+first_by_index l i (k ∷ ks) = rw (and_swap (option_eq eqb k.index l.index) (eqb k.name l.name), first_by_index l (i + 1) ks)
+
+pub index_first : (l : KeyValue) (ks : List KeyValue) (r : Maybe ℕ) → r ≡ position (λ k. option_eq eqb k.index l.index && eqb k.name l.name) ks → r ≡ position (λ k. same k l) ks
+index_first l ks r e =
+    e ∙ position_from-zero (λ k. option_eq eqb k.index l.index && eqb k.name l.name) ks ∙ first_by_index l 0 ks
+    ∙ sym (position_from-zero (λ k. same k l) ks)
 
 -- a key is found where it is there
 found_there : (l : KeyValue) (i : ℕ) (ks : List KeyValue) → is_some (position_from (λ k. same k l) i ks) ≡ has_key (keys_of ks) (key_of l)
