@@ -50,6 +50,12 @@ module _ (x : Text) (place : ℕ) (s : List ℕ) (at : ℕ) where
       go true e = let z : i ≡ end x = cc in rw z
       go false e = absurd cc
 
+-- where every byte is allowed
+pub allowed_every : (x : Text) (place : ℕ) (s : List ℕ) (at : ℕ) → every (between 33 126) x ≡ true → allowed x place s at ≡ ok tt at
+unfolding every allowed check done ◌>>◌ bind
+allowed_every [] place s at h = refl
+allowed_every (c ∷ cs) place s at h = let f = (and-eq-true_iff (between 33 126 c) _).0 h in rw f.0 (allowed_every cs (place + 1) s at f.1)
+
 -- the bytes of a name are allowed
 later_allowed : (c : ℕ) → (letter c || digit c) ≡ true → between 33 126 c ≡ true
 unfolding letter digit
@@ -116,4 +122,4 @@ module _ (s : List ℕ) (kinds : List Spelling) (known : kinds ≡ kinds_of s) (
       let h : true ≡ ltb n (length (texts_of s)) = rw (same, known, length-kinds_of s) at e in
       g ∙ rw (← h) (told y.now (ltb-true _ _ (sym h)) f kind.now)
 
-pub ruleset named = (allowed_none, allowed_some, length-kinds_of)
+pub ruleset named = (allowed_every, allowed_none, allowed_some, length-kinds_of)

@@ -25,7 +25,7 @@ fn is_letter(c: u8) -> bool
 }
 
 // Whether every byte is allowed. Each is looked at, so that many are at once.
-fn all_of<F: Fn(u8) -> bool>(x: &[u8], allowed: F) -> bool
+pub(crate) fn all_of<F: Fn(u8) -> bool>(x: &[u8], allowed: F) -> bool
     requires { F.IsAlwaysCallable allowed }
     ensures { (p : ℕ → Bool) → ((c : ℕ) (b : Bool) → F.post allowed c b → b ≡ p c) → result ≡ every p x.now }
 {

@@ -4,7 +4,7 @@
 ghost use Rattle.std.specs.Prelude.{◌≡◌, ◌≤◌, ◌<◌, ◌-◌, eqb, not, map, position, length, take, drop};
 ghost use Rattle.std.specs.List.{list_any};
 ghost use Rattle.text.specs.Text.{same};
-ghost use Rattle.tree.specs.Texts.{between, allowed, among, is_name, is_float, is_path, text_at, past};
+ghost use Rattle.tree.specs.Texts.{between, every, allowed, among, is_name, is_float, is_path, text_at, past};
 ghost use Rattle.tree.specs.Exprs.{text_number};
 ghost use Rattle.tree.specs.Decode.{texts_of};
 ghost use Rattle.reading.specs.Answers.{answer, forget};
@@ -33,6 +33,13 @@ const HALF: u64 = 1 << 32;
 // The golden section of 2^32: it spreads near numbers.
 const SPREAD: u64 = 2654435769;
 
+// Every byte is looked at, so that many are at once.
+fn all_allowed(x: &[u8]) -> bool
+    ensures { result ≡ every (between 33 126) x.now }
+{
+    spelling::all_of(x, |b| b.is_ascii_graphic())
+}
+
 // The first byte that a text may not have.
 fn not_allowed(x: &[u8]) -> Option<usize>
     ensures { result ≡ position (λ c. not (between 33 126 c)) x.now }
@@ -40,12 +47,16 @@ fn not_allowed(x: &[u8]) -> Option<usize>
     x.iter().position(|b| !b.is_ascii_graphic())
 }
 
-// The bytes of a text, from `at` to `end`: the first that is not allowed is refused.
+// The bytes of a text, from `at` to `end`: the first that is not allowed is refused. It is sought byte by byte, so only where there is one.
 fn read_allowed(s: &[u8], at: usize, end: usize) -> Read<()>
     requires { (at ≤ end) × (end ≤ length s.now) }
     ensures { answer result ≡ allowed (take (end - at) (drop at s.now)) at s.now end }
 {
-    match not_allowed(&s[at..end]) {
+    let x = &s[at..end];
+    if all_allowed(x) {
+        return Read::At((), end);
+    }
+    match not_allowed(x) {
         None => Read::At((), end),
         Some(i) => refuse(Refusal::NotAllowed, at + i),
     }
