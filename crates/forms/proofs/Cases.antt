@@ -1,14 +1,16 @@
 -- Expressions by their levels, and the cases of expressions and modifiers. Assumes nothing.
-use Rattle.std.proofs.Common.{◌≡◌, refl, ℕ, zero, suc, ◌-◌, List, [], ◌∷◌, get_or, sub-one, arith}
+use Rattle.std.proofs.Common.{◌≡◌, refl, ℕ, ◌-◌, List, [], ◌∷◌, get_or, arith}
 use Rattle.std.proofs.lemmas.Grind.{common_steps}
 use Rattle.span.specs.declared.Span.{Span}
 use Rattle.ast.specs.Tree.{Text, Expr, GateModifier}
-use Rattle.tree.specs.Ans.{Ans, ok, refused, Reader, bind, ◌>>=◌, here, done, refuse}
+use Rattle.tree.specs.Ans.{Ans, ok, refused, Reader, bind, ◌>>=◌, done, refuse}
 use Rattle.ast.specs.declared.ClassicalQualifier.TheVariants.{Const, Input, Output}
 use Rattle.tree.specs.Read.{span, case_byte, one_of}
 use Rattle.tree.specs.Stmts.{qualifier, inv}
+use Rattle.tree.specs.Levels.{expr_levels}
 use Rattle.tree.specs.Exprs.{binary, bin_op, compare, compare_op, const, const_kind, expr_cases, expr}
 use Rattle.reading.specs.Answers.{forget}
+use Rattle.reading.proofs.Levels.{level-refused, level-over, level-arm}
 use Rattle.forms.specs.Pairs.{pair}
 
 -- a qualifier is read as its case byte
@@ -31,25 +33,14 @@ inv_is t s at = go (span s at)
 
 module _ (t : List Text) (left : ℕ) (s : List ℕ) (at : ℕ) where
   pub expr-refused : (n p : ℕ) → case_byte 10 s at ≡ refused n p → expr t left s at ≡ refused n p
-  unfolding expr here ◌>>=◌ bind
-  expr-refused n p e = go left
-    where
-      go : (left : ℕ) → expr t left s at ≡ refused n p
-      go zero = rw e
-      go (suc left) = rw e
+  expr-refused = level-refused (expr_levels t) left s at
 
   module _ (b k : ℕ) (e : case_byte 10 s at ≡ ok b k) where
     pub expr-over : left ≡ 0 → expr t left s at ≡ refused 6 at
-    unfolding expr here refuse ◌>>=◌ bind
-    expr-over z = rw (z, e)
+    expr-over = level-over (expr_levels t) left s at b k e
 
     pub expr-arm : (left ≡ 0 → ⊥) → expr t left s at ≡ get_or (expr_cases t (expr t (left - 1))) b (refuse 4 at) s k
-    unfolding expr here ◌>>=◌ bind
-    expr-arm deep = go left deep
-      where
-        go : (left : ℕ) → (left ≡ 0 → ⊥) → expr t left s at ≡ get_or (expr_cases t (expr t (left - 1))) b (refuse 4 at) s k
-        go zero d = absurd (d refl)
-        go (suc left) d = rw (e, sub-one)
+    expr-arm = level-arm (expr_levels t) left s at b k e
 
 -- an operation and a comparison, of which the operator is read first
 module _ (t : List Text) (inner : Reader Expr) (s : List ℕ) (at : ℕ) where

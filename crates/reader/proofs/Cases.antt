@@ -1,33 +1,24 @@
 -- Statements by their levels, and bodies. Assumes nothing.
-use Rattle.std.proofs.Common.{◌≡◌, refl, ℕ, zero, suc, ◌-◌, List, get_or, sub-one, arith}
+use Rattle.std.proofs.Common.{◌≡◌, refl, ℕ, ◌-◌, List, get_or, arith}
 use Rattle.std.proofs.Math.Option.{Option}
 use Rattle.ast.specs.Tree.{Text, Stmt, Stmts, no_stmt, more_stmt}
-use Rattle.tree.specs.Ans.{Ans, ok, refused, Reader, bind, ◌>>=◌, done, here, refuse}
+use Rattle.tree.specs.Ans.{Ans, ok, refused, Reader, bind, ◌>>=◌, done, refuse}
 use Rattle.tree.specs.Read.{number, case_byte, option, repeat}
+use Rattle.tree.specs.Levels.{stmt_levels}
 use Rattle.tree.specs.Stmts.{body, to_else, else_body, stmt_cases, stmt}
 use Rattle.reading.specs.Answers.{forget}
+use Rattle.reading.proofs.Levels.{level-refused, level-over, level-arm}
 
 module _ (t : List Text) (left : ℕ) (s : List ℕ) (at : ℕ) where
   pub stmt-refused : (n p : ℕ) → case_byte 15 s at ≡ refused n p → stmt t left s at ≡ refused n p
-  unfolding stmt here ◌>>=◌ bind
-  stmt-refused n p e = go left
-    where
-      go : (left : ℕ) → stmt t left s at ≡ refused n p
-      go zero = rw e
-      go (suc left) = rw e
+  stmt-refused = level-refused (stmt_levels t) left s at
 
   module _ (b k : ℕ) (e : case_byte 15 s at ≡ ok b k) where
     pub stmt-over : left ≡ 0 → stmt t left s at ≡ refused 6 at
-    unfolding stmt here refuse ◌>>=◌ bind
-    stmt-over z = rw (z, e)
+    stmt-over = level-over (stmt_levels t) left s at b k e
 
     pub stmt-arm : (left ≡ 0 → ⊥) → stmt t left s at ≡ get_or (stmt_cases t (stmt t (left - 1)) at) b (refuse 4 at) s k
-    unfolding stmt here ◌>>=◌ bind
-    stmt-arm deep = go left deep
-      where
-        go : (left : ℕ) → (left ≡ 0 → ⊥) → stmt t left s at ≡ get_or (stmt_cases t (stmt t (left - 1)) at) b (refuse 4 at) s k
-        go zero d = absurd (d refl)
-        go (suc left) d = rw (e, sub-one)
+    stmt-arm = level-arm (stmt_levels t) left s at b k e
 
 pub ruleset stmts = (stmt-refused, stmt-over, stmt-arm)
 

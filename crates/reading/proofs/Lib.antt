@@ -8,3 +8,4 @@ pub mod Named
 pub mod Repeated
 pub mod Gathered
 pub mod Cases
+pub mod Levels
