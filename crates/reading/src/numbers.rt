@@ -35,7 +35,7 @@ pub fn read_case(s: &[u8], at: usize, cases: u8) -> Read<u8>
 }
 
 // The count of a Vec.
-pub(crate) fn read_count(s: &[u8], at: usize) -> Read<u8>
+pub fn read_count(s: &[u8], at: usize) -> Read<u8>
     ensures { answer result ≡ count s.now at }
 {
     read_byte(s, at).check(|n| n <= VEC_LIMIT, Refusal::LargeCount, at)
