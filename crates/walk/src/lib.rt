@@ -36,6 +36,7 @@ fn moved(st: State, a: After) -> State
 }
 
 #[cycle(stmts)]
+#[inline(never)]
 fn gate_def(
     texts: Texts<'_>,
     index: &mut Index,
@@ -60,6 +61,7 @@ fn gate_def(
 }
 
 #[cycle(stmts)]
+#[inline(never)]
 fn branch(
     texts: Texts<'_>,
     index: &mut Index,
@@ -117,6 +119,7 @@ fn branch_else(
 
 // Each case of a statement has its function.
 #[cycle(stmts)]
+#[inline(never)]
 fn for_loop(
     texts: Texts<'_>,
     index: &mut Index,
@@ -139,6 +142,7 @@ fn for_loop(
 }
 
 #[cycle(stmts)]
+#[inline(never)]
 fn while_loop(
     texts: Texts<'_>,
     index: &mut Index,
@@ -162,6 +166,7 @@ fn while_loop(
 
 // The body of a loop, and its span behind it. Entry and exit are united.
 #[cycle(stmts)]
+#[inline(always)]
 fn loop_body(
     texts: Texts<'_>,
     index: &mut Index,
