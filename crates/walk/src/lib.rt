@@ -43,10 +43,10 @@ fn gate_def(
     scratch: &mut [u8],
     out: &mut [u8],
     left: usize,
-    st: State,
+    st: &State,
 ) -> Option<State>
-    requires { StmtAsked texts.tree.now index.old left st scratch.old × (get_or texts.tree.now st.at 0 ≡ 6) }
-    ensures { StmtWent texts.entry.tree.now left st index.old scratch.old out.old result index.new scratch.new out.new }
+    requires { StmtAsked texts.tree.now index.old left st.now scratch.old × (get_or texts.tree.now st.now.at 0 ≡ 6) }
+    ensures { StmtWent texts.entry.tree.now left st.now index.old scratch.old out.old result index.new scratch.new out.new }
 {
     let here = StmtAt {
         texts,
@@ -54,7 +54,7 @@ fn gate_def(
         at: st.at,
     };
     let a = bodies::open_gate(here, scratch, out, st.sink);
-    let s = moved(st, a);
+    let s = moved(*st, a);
     let mut r = analyze_stmts(texts, index, scratch, out, left - 1, s)?;
     r.at += 8;
     Some(r)
@@ -68,10 +68,10 @@ fn branch(
     scratch: &mut [u8],
     out: &mut [u8],
     left: usize,
-    st: State,
+    st: &State,
 ) -> Option<State>
-    requires { StmtAsked texts.tree.now index.old left st scratch.old × (get_or texts.tree.now st.at 0 ≡ 12) }
-    ensures { StmtWent texts.entry.tree.now left st index.old scratch.old out.old result index.new scratch.new out.new }
+    requires { StmtAsked texts.tree.now index.old left st.now scratch.old × (get_or texts.tree.now st.now.at 0 ≡ 12) }
+    ensures { StmtWent texts.entry.tree.now left st.now index.old scratch.old out.old result index.new scratch.new out.new }
 {
     let here = StmtAt {
         texts,
@@ -79,7 +79,7 @@ fn branch(
         at: st.at,
     };
     let a = bodies::open_if(here, scratch, out, st.sink);
-    let s = moved(st, a);
+    let s = moved(*st, a);
     let t = analyze_stmts(texts, index, scratch, out, left - 1, s)?;
     branch_else(texts, index, scratch, out, left, &st.marks, t)
 }
@@ -126,10 +126,10 @@ fn for_loop(
     scratch: &mut [u8],
     out: &mut [u8],
     left: usize,
-    st: State,
+    st: &State,
 ) -> Option<State>
-    requires { StmtAsked texts.tree.now index.old left st scratch.old × (get_or texts.tree.now st.at 0 ≡ 13) }
-    ensures { StmtWent texts.entry.tree.now left st index.old scratch.old out.old result index.new scratch.new out.new }
+    requires { StmtAsked texts.tree.now index.old left st.now scratch.old × (get_or texts.tree.now st.now.at 0 ≡ 13) }
+    ensures { StmtWent texts.entry.tree.now left st.now index.old scratch.old out.old result index.new scratch.new out.new }
 {
     let here = StmtAt {
         texts,
@@ -137,8 +137,7 @@ fn for_loop(
         at: st.at,
     };
     let a = bodies::open_for(here, scratch, out, st.sink);
-    let s = moved(st, a);
-    loop_body(texts, index, scratch, out, left - 1, s)
+    loop_body(texts, index, scratch, out, left - 1, st, a)
 }
 
 #[cycle(stmts)]
@@ -149,10 +148,10 @@ fn while_loop(
     scratch: &mut [u8],
     out: &mut [u8],
     left: usize,
-    st: State,
+    st: &State,
 ) -> Option<State>
-    requires { StmtAsked texts.tree.now index.old left st scratch.old × (get_or texts.tree.now st.at 0 ≡ 14) }
-    ensures { StmtWent texts.entry.tree.now left st index.old scratch.old out.old result index.new scratch.new out.new }
+    requires { StmtAsked texts.tree.now index.old left st.now scratch.old × (get_or texts.tree.now st.now.at 0 ≡ 14) }
+    ensures { StmtWent texts.entry.tree.now left st.now index.old scratch.old out.old result index.new scratch.new out.new }
 {
     let here = StmtAt {
         texts,
@@ -160,8 +159,7 @@ fn while_loop(
         at: st.at,
     };
     let a = bodies::open_while(here, scratch, out, st.sink);
-    let s = moved(st, a);
-    loop_body(texts, index, scratch, out, left - 1, s)
+    loop_body(texts, index, scratch, out, left - 1, st, a)
 }
 
 // The body of a loop, and its span behind it. Entry and exit are united.
@@ -173,12 +171,14 @@ fn loop_body(
     scratch: &mut [u8],
     out: &mut [u8],
     left: usize,
-    st: State,
+    st: &State,
+    a: After,
 ) -> Option<State>
-    requires { LoopAsked texts.tree.now index.old left st scratch.old }
-    ensures { LoopWent texts.entry.tree.now left st index.old scratch.old out.old result index.new scratch.new out.new }
+    requires { LoopAsked texts.tree.now index.old left (moved_to st.now a) scratch.old }
+    ensures { LoopWent texts.entry.tree.now left (moved_to st.now a) index.old scratch.old out.old result index.new scratch.new out.new }
 {
-    let mut r = analyze_stmts(texts, index, scratch, out, left, st)?;
+    let s = moved(*st, a);
+    let mut r = analyze_stmts(texts, index, scratch, out, left, s)?;
     sheet::unite(&st.marks, &mut r.marks);
     r.at += 8;
     Some(r)
@@ -265,10 +265,10 @@ fn body_stmt(
     scratch: &mut [u8],
     out: &mut [u8],
     left: usize,
-    st: State,
+    st: &State,
 ) -> Option<State>
-    requires { StmtAsked texts.tree.now index.old left st scratch.old × (is_plain (get_or texts.tree.now st.at 0) ≡ false) }
-    ensures { StmtWent texts.entry.tree.now left st index.old scratch.old out.old result index.new scratch.new out.new }
+    requires { StmtAsked texts.tree.now index.old left st.now scratch.old × (is_plain (get_or texts.tree.now st.now.at 0) ≡ false) }
+    ensures { StmtWent texts.entry.tree.now left st.now index.old scratch.old out.old result index.new scratch.new out.new }
 {
     let at = st.at;
     // By the case byte: an enum with a conversion would say each case twice.
@@ -309,7 +309,7 @@ pub fn analyze_stmts(
         } else {
             s.at = k;
             s.sink = sink;
-            s = body_stmt(texts, index, scratch, out, left, s)?;
+            s = body_stmt(texts, index, scratch, out, left, &s)?;
             sink = s.sink;
             k = s.at;
         }

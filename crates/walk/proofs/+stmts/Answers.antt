@@ -74,33 +74,33 @@ pub gate_def-overflow_sub-left : goal.gate_def-overflow_sub-left
 gate_def-overflow_sub-left t c = omega (arith, stmt-left _ _ _ _ c.requires.0.accepted)
 
 pub gate_def-analyze_stmts-requires : goal.gate_def-analyze_stmts-requires
-gate_def-analyze_stmts-requires t c = gate-below c.requires.0 c.requires.1 (opened_moved c.args.st _ c.open_gate-a.ensures _ c.moved-s.ensures) c.decreases
+gate_def-analyze_stmts-requires t c = gate-below c.requires.0 c.requires.1 (opened_moved c.args.st.now _ c.open_gate-a.ensures _ c.moved-s.ensures) c.decreases
 
 pub gate_def-returns-in_err-r : goal.gate_def-returns-in_err-r
-gate_def-returns-in_err-r t c = rw c.from_residual.ensures (gate-over c.requires.0 c.requires.1 (opened_moved c.args.st _ c.open_gate-a.ensures _ c.moved-s.ensures) c.in_err-r.ensures)
+gate_def-returns-in_err-r t c = rw c.from_residual.ensures (gate-over c.requires.0 c.requires.1 (opened_moved c.args.st.now _ c.open_gate-a.ensures _ c.moved-s.ensures) c.in_err-r.ensures)
 
 pub gate_def-overflow_add-r : goal.gate_def-overflow_add-r
 gate_def-overflow_add-r t c =
-    omega (arith, gate-room c.requires.0 c.requires.1 (opened_moved c.args.st _ c.open_gate-a.ensures _ c.moved-s.ensures) c.in_ok-r.ensures, c.requires.0.walkable.small)
+    omega (arith, gate-room c.requires.0 c.requires.1 (opened_moved c.args.st.now _ c.open_gate-a.ensures _ c.moved-s.ensures) c.in_ok-r.ensures, c.requires.0.walkable.small)
 
 pub gate_def-returns : goal.gate_def-returns
-gate_def-returns t c = gate_went c.requires.0 c.requires.1 (opened_moved c.args.st _ c.open_gate-a.ensures _ c.moved-s.ensures) c.in_ok-r.ensures _ refl refl refl refl
+gate_def-returns t c = gate_went c.requires.0 c.requires.1 (opened_moved c.args.st.now _ c.open_gate-a.ensures _ c.moved-s.ensures) c.in_ok-r.ensures _ refl refl refl refl
 
 -- an `if`
 pub branch-overflow_sub-left : goal.branch-overflow_sub-left
 branch-overflow_sub-left t c = omega (arith, stmt-left _ _ _ _ c.requires.0.accepted)
 
 pub branch-analyze_stmts-requires : goal.branch-analyze_stmts-requires
-branch-analyze_stmts-requires t c = then-below c.requires.0 c.requires.1 (opened_moved c.args.st _ c.open_if-a.ensures _ c.moved-s.ensures) c.decreases
+branch-analyze_stmts-requires t c = then-below c.requires.0 c.requires.1 (opened_moved c.args.st.now _ c.open_if-a.ensures _ c.moved-s.ensures) c.decreases
 
 pub branch-returns-in_err-t : goal.branch-returns-in_err-t
-branch-returns-in_err-t t c = rw c.from_residual.ensures (then-over c.requires.0 c.requires.1 (opened_moved c.args.st _ c.open_if-a.ensures _ c.moved-s.ensures) c.in_err-t.ensures)
+branch-returns-in_err-t t c = rw c.from_residual.ensures (then-over c.requires.0 c.requires.1 (opened_moved c.args.st.now _ c.open_if-a.ensures _ c.moved-s.ensures) c.in_err-t.ensures)
 
 pub branch-branch_else-requires : goal.branch-branch_else-requires
-branch-branch_else-requires t c = else_below c.requires.0 c.requires.1 (opened_moved c.args.st _ c.open_if-a.ensures _ c.moved-s.ensures) c.in_ok-t.ensures c.decreases
+branch-branch_else-requires t c = else_below c.requires.0 c.requires.1 (opened_moved c.args.st.now _ c.open_if-a.ensures _ c.moved-s.ensures) c.in_ok-t.ensures c.decreases
 
 pub branch-returns : goal.branch-returns
-branch-returns t c = if_went c.requires.0 c.requires.1 (opened_moved c.args.st _ c.open_if-a.ensures _ c.moved-s.ensures) c.in_ok-t.ensures _ c.branch_else.ensures
+branch-returns t c = if_went c.requires.0 c.requires.1 (opened_moved c.args.st.now _ c.open_if-a.ensures _ c.moved-s.ensures) c.in_ok-t.ensures _ c.branch_else.ensures
 
 -- its `else`
 pub branch_else-bounds-texts-k : goal.branch_else-bounds-texts-k
@@ -131,19 +131,19 @@ pub for_loop-overflow_sub-left : goal.for_loop-overflow_sub-left
 for_loop-overflow_sub-left t c = omega (arith, stmt-left _ _ _ _ c.requires.0.accepted)
 
 pub for_loop-loop_body-requires : goal.for_loop-loop_body-requires
-for_loop-loop_body-requires t c = for_below c.requires.0 c.requires.1 (opened_moved c.args.st _ c.open_for-a.ensures _ c.moved-s.ensures) c.decreases
+for_loop-loop_body-requires t c = for_below c.requires.0 c.requires.1 (opened_moved c.args.st.now _ c.open_for-a.ensures _ refl) c.decreases
 
 pub for_loop-returns : goal.for_loop-returns
-for_loop-returns t c = for_went c.requires.0 c.requires.1 (opened_moved c.args.st _ c.open_for-a.ensures _ c.moved-s.ensures) _ c.loop_body.ensures
+for_loop-returns t c = for_went c.requires.0 c.requires.1 (opened_moved c.args.st.now _ c.open_for-a.ensures _ refl) _ c.loop_body.ensures
 
 pub while_loop-overflow_sub-left : goal.while_loop-overflow_sub-left
 while_loop-overflow_sub-left t c = omega (arith, stmt-left _ _ _ _ c.requires.0.accepted)
 
 pub while_loop-loop_body-requires : goal.while_loop-loop_body-requires
-while_loop-loop_body-requires t c = while-below c.requires.0 c.requires.1 (opened_moved c.args.st _ c.open_while-a.ensures _ c.moved-s.ensures) c.decreases
+while_loop-loop_body-requires t c = while-below c.requires.0 c.requires.1 (opened_moved c.args.st.now _ c.open_while-a.ensures _ refl) c.decreases
 
 pub while_loop-returns : goal.while_loop-returns
-while_loop-returns t c = while_went c.requires.0 c.requires.1 (opened_moved c.args.st _ c.open_while-a.ensures _ c.moved-s.ensures) _ c.loop_body.ensures
+while_loop-returns t c = while_went c.requires.0 c.requires.1 (opened_moved c.args.st.now _ c.open_while-a.ensures _ refl) _ c.loop_body.ensures
 
 pub loop_body-returns : goal.loop_body-returns
-loop_body-returns t c = let u = c.unite.ensures in looped_went c.requires c.in_ok-r.ensures _ refl refl refl (u.placed, (u.marks, u.behind))
+loop_body-returns t c = let u = c.unite.ensures in looped_went c.requires (rw c.moved-s.ensures at c.in_ok-r.ensures) _ refl refl refl (u.placed, (u.marks, u.behind))
