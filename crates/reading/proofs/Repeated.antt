@@ -1,20 +1,13 @@
 -- Whether a text is among the earlier ones: a law for each way out of the code. Assumes nothing.
-use Rattle.std.proofs.Common.{◌≡◌, refl, sym, ap, ◌∙◌, ℕ, zero, suc, ◌+◌, ◌<◌, ◌≤◌, List, [], ◌∷◌, ◌++◌, map, length, get_or, drop, Bool, true, false, ◌&&◌, ◌||◌, eqb, arith, add-one}
-use Rattle.std.specs.List.{list_any, fold}
-use mathlib.Core.Bool.{or-false, or_assoc}
-use Rattle.std.specs.Cmp.Lexicographic.{pointwise}
+use Rattle.std.proofs.Common.{◌≡◌, refl, sym, ◌∙◌, ℕ, zero, suc, ◌+◌, ◌<◌, ◌≤◌, List, [], ◌∷◌, ◌++◌, map, length, get_or, drop, Bool, true, false, ◌&&◌, ◌||◌, eqb, arith, add-one}
+use Rattle.std.specs.List.{list_any, fold, zip}
+use mathlib.Core.Bool.{and-true, and_assoc, or-false, or_assoc}
 use borrow.Author.Tests.{ne_eqb, eqb-true, eqb-false}
 use lib.Seq.{drop-cons}
 use Rattle.text.specs.Text.{same}
 use Rattle.ast.specs.Tree.{Text}
 use Rattle.tree.specs.Texts.{among, text_at, past}
 use Rattle.reading.specs.Section.{texts_from, past_texts, checksum}
-
-pub pointwise_same : (x y : Text) → pointwise eqb x y ≡ same x y
-pointwise_same [] [] = refl
-pointwise_same [] (b ∷ y) = refl
-pointwise_same (a ∷ x) [] = refl
-pointwise_same (a ∷ x) (b ∷ y) = ap (λ r. eqb a b && r) (pointwise_same x y)
 
 -- texts of which something differs are different
 texts-differ : (f : Text → ℕ) (x y : Text) → (f x ≡ f y → ⊥) → false ≡ same x y
@@ -26,6 +19,19 @@ texts-differ f (a ∷ x) (b ∷ y) d = go (eqb a b) refl (texts-differ (λ z. f 
     go : (e : Bool) → eqb a b ≡ e → ((f (a ∷ x) ≡ f (a ∷ y) → ⊥) → false ≡ same x y) → false ≡ (e && same x y)
     go false e g = refl
     go true e g = g (λ h. d (h ∙ rw (eqb-true a b e) refl))
+
+pub length_differs : (x y : Text) → (length x ≡ length y → ⊥) → eqb (length x) (length y) ≡ same x y
+length_differs x y d = ne_eqb (length x) (length y) d ∙ texts-differ length x y d
+
+-- a test of every byte beside its fellow, one after the other
+abbrev pub alike : Bool → ℕ × ℕ → Bool
+alike good p = good && eqb p.0 p.1
+
+pub fold_same : (good : Bool) (x y : Text) → length x ≡ length y → fold alike good (zip x y) ≡ (good && same x y)
+fold_same good [] [] e = sym (and-true good)
+fold_same good [] (b ∷ y) e = absurd (omega arith)
+fold_same good (a ∷ x) [] e = absurd (omega arith)
+fold_same good (a ∷ x) (b ∷ y) e = fold_same (good && eqb a b) x y (omega arith) ∙ and_assoc good (eqb a b) (same x y)
 
 pub text-other : (x y : Text) (sum other : ℕ) → sum ≡ checksum x → other ≡ checksum y → (sum ≡ other → ⊥) → eqb sum other ≡ same x y
 text-other x y sum other e f d = ne_eqb sum other d ∙ texts-differ checksum x y (λ g. d (e ∙ g ∙ sym f))
@@ -94,6 +100,6 @@ module _ (s : List ℕ) (x : Text) (sums : List ℕ) (k i : ℕ) (looking : Look
       unfolding texts_from past_texts among
       looking-more t m f = rw f (record { within = next.within; summed = (let e = next.summed in cc); remain = next.remain ∙ rw (← g, t) refl })
 
-pub ruleset same_texts = (pointwise_same, text-other)
+pub ruleset same_texts = (length_differs, text-other)
 
 pub ruleset repeated = (not_repeated, looking-within, looking-sum, looking-here)

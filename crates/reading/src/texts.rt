@@ -77,6 +77,17 @@ fn text_at(s: &[u8], at: usize) -> &[u8]
     &s[at + 1..past_text(s, at)]
 }
 
+// Every byte is compared, so that many are at once: `==` would stop at the first that differs.
+#[tactic(auto, using(crate::proofs::Repeated::same_texts))]
+fn is_same(x: &[u8], y: &[u8]) -> bool
+    ensures { result ≡ same x.now y.now }
+{
+    x.len() == y.len()
+        && x.iter()
+            .zip(y)
+            .fold(true, |alike, (b, other)| alike & (*b == *other))
+}
+
 // Whether a text equals the one at `at`, given the checksums of both. Text and checksum go apart: in a struct that is copied, reading
 // 250 texts of one checksum took a tenth more instructions.
 #[tactic(auto, using(crate::proofs::Repeated::same_texts))]
@@ -86,7 +97,7 @@ fn is_text(s: &[u8], at: usize, other: u64, x: &[u8], sum: u64) -> bool
     requires sum_value { sum ≡ checksum x.now }
     ensures { result ≡ same x.now (text_at s.now at) }
 {
-    sum == other && x == text_at(s, at)
+    sum == other && is_same(x, text_at(s, at))
 }
 
 // The slot of a checksum: of a product's last 32 bits the first ten.
