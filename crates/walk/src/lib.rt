@@ -1,6 +1,7 @@
-// The analysis of statements over accepted bytes: the Rust's analyze_stmt (plain_stmt, body_stmt) and analyze_stmts. The state is taken and
-// given by value, so a caller keeps the marks of the entry of a body; a statement without a body is lent the marks. Keys are numbered as
-// measure statements are met (keyed_stmt); once there are too many, the walk stops, and gives None.
+// The analysis of statements over accepted bytes: the Rust's analyze_stmt (plain_stmt, body_stmt) and analyze_stmts. A body takes the state
+// and gives it by value, so a caller keeps the marks of the entry of a body. A statement with a body gives it by value too, and is lent it to
+// read: each copy is 536 bytes. A statement without a body is lent the marks. Keys are numbered as measure statements are met (keyed_stmt);
+// once there are too many, the walk stops, and gives None.
 #![tactic(auto)]
 
 ghost use Rattle.std.specs.Prelude.{◌≡◌, true, false, ℕ, ◌-◌, ◌≤◌, length, get_or};
@@ -35,6 +36,7 @@ fn moved(st: State, a: After) -> State
     }
 }
 
+// Not inlined, as the other statements with a body: states stand in each one's frame, and a nest takes the frames of what it is made of.
 #[cycle(stmts)]
 #[inline(never)]
 fn gate_def(
@@ -162,7 +164,7 @@ fn while_loop(
     loop_body(texts, index, scratch, out, left - 1, st, a)
 }
 
-// The body of a loop, and its span behind it. Entry and exit are united.
+// The body of a loop, opened, and its span behind it. Entry and exit are united. Inlined: a call would copy the state once more.
 #[cycle(stmts)]
 #[inline(always)]
 fn loop_body(
