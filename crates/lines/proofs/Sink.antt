@@ -1,13 +1,13 @@
 -- A sink that stores where there is room and always advances: what is left to write. Assumes nothing.
 use Prim.Native.Nat.{ℕ, zero, suc, ◌<◌, ◌≤◌, ◌+◌, ◌-◌, min}
-use mathlib.Core.Path.{◌≡◌, refl, ap, ◌∙◌}
+use mathlib.Core.Path.{◌≡◌, refl, ap, sym, ◌∙◌}
 use mathlib.Core.List.{List, [], ◌∷◌, ◌++◌, append_assoc}
 use mathlib.Core.Logic.{⊎_elim}
 use native.Mathlib.Omega.{arith}
 use lib.ListN.{length, take, drop, set, length-set, length-append}
 use lib.Seq.{sets, set_out, take-nil, take-length, length-take-le}
 use borrow.Rule.Slice.PartMut.{put_mid, put_same}
-use Rattle.std.proofs.lemmas.List.{drop-drop}
+use Rattle.std.proofs.lemmas.List.{drop-drop, length-take, length-drop}
 use Rattle.std.proofs.lemmas.List.Edits.{sets-eq}
 use Rattle.text.proofs.Order.{le-or-lt}
 use Rattle.text.proofs.Sets.{sets-append}
@@ -22,6 +22,20 @@ sets-cut (x ∷ xs) l i (suc k) h = sets-cut xs (set l i x) (suc i) k (omega (ar
 pub wrote_then : {o : List ℕ} {n : ℕ} {b : List ℕ} {k : ℕ} {b' : List ℕ} {k' : ℕ} {xs ys : List ℕ} → Wrote o n b k xs → Wrote b k b' k' ys → Wrote o n b' k' (xs ++ ys)
 wrote_then {o} {n} {b} {k} {b'} {k'} {xs} {ys} v w =
     record { holds = rw (sets-append xs ys o n, ← v.holds, ← v.after) w.holds; after = omega (arith, v.after, w.after, length-append xs ys) }
+
+-- a copy under way: so many of the bytes are stored
+pub record Copying (s b r : List ℕ) (i : ℕ) : Type 0 where
+  pub within : i ≤ length b
+  pub size : length r ≡ length b
+  pub fits : length b ≤ length s
+  pub same : take i r ≡ take i s
+
+module _ {s b r : List ℕ} {i : ℕ} (u : Copying s b r i) where
+  pub copying-end : {k : ℕ} → k ≡ length b → length b ≤ i → r ≡ take k s
+  copying-end {k} h g =
+      let e : i ≡ length r = omega (arith, u.within, u.size) in
+      let f : k ≡ length r = omega (arith, u.size) in
+      rw f (sym (take-length r) ∙ rw e at u.same)
 
 -- a piece copied as far as there is room
 module _ (o s : List ℕ) where
@@ -40,7 +54,7 @@ module _ (o s : List ℕ) where
   copied-none : (n : ℕ) → length o ≤ n → put_mid (length o) 0 o [] ≡ sets o n s
   copied-none n h = put_same (length o) 0 o ∙ sets-cut s o n 0 (omega arith)
 
-pub copied : {o s ys : List ℕ} {n a e : ℕ} → a ≡ min n (length o) → e ≡ min (n + length s) (length o) → ys ≡ take (e - a) s → Wrote o n (put_mid a (e - a) o ys) (n + length s) s
+copied : {o s ys : List ℕ} {n a e : ℕ} → a ≡ min n (length o) → e ≡ min (n + length s) (length o) → ys ≡ take (e - a) s → Wrote o n (put_mid a (e - a) o ys) (n + length s) s
 copied {o} {s} {ys} {n} {a} {e} p q r = record { holds = rw r holds; after = refl }
   where
     holds : put_mid a (e - a) o (take (e - a) s) ≡ sets o n s
@@ -53,3 +67,9 @@ copied {o} {s} {ys} {n} {a} {e} p q r = record { holds = rw r holds; after = ref
         (λ (g : n + length s < length o). let z : e - a ≡ length s = omega arith in rw (z, x) (copied-whole o s n (omega arith)))
         (le-or-lt (length o) (n + length s)))
         (le-or-lt (length o) n)
+
+-- at the end of the loop all that has room is stored
+pub copied-all : {o s ys : List ℕ} {n a k i : ℕ} → a ≡ min n (length o) → k ≡ min (length s) (length o - a) → Copying s (take (a + k - a) (drop a o)) ys i → length (take (a + k - a) (drop a o)) ≤ i → Wrote o n (put_mid a (a + k - a) o ys) (n + length s) s
+copied-all {o} {a = a} {k = k} p q u h =
+    let e : a + k - a ≡ length (take (a + k - a) (drop a o)) = omega (arith, length-take (a + k - a) (drop a o), length-drop a o) in
+    copied p (omega arith) (copying-end u e h)

@@ -39,25 +39,26 @@ pub fn name_of<'a>(tree: &'a [u8], places: &Places, x: usize) -> &'a [u8]
 }
 
 // Stores a piece from n on, as far as there is room.
+// Byte by byte: copy_from_slice would bring memmove, which nothing else in the archive for C needs.
 pub(crate) fn copy(out: &mut [u8], n: usize, s: &[u8]) -> usize
     requires { n + length s.now < 18446744073709551616 }
     ensures { Wrote out.old n out.new result s.now }
 {
     let start = n.min(out.len());
-    let end = (n + s.len()).min(out.len());
-    out[start..end].copy_from_slice(&s[..end - start]);
+    let end = start + s.len().min(out.len() - start);
+    let part = &mut out[start..end];
+    for (i, place) in part.iter_mut().enumerate() {
+        *place = s[i];
+    }
     n + s.len()
 }
 
-// Stores one byte, where there is room.
+// Stores one byte, where there is room: by `copy`, since nothing else stores into the lines.
 pub(crate) fn put(out: &mut [u8], n: usize, b: u8) -> usize
     requires { n + 1 < 18446744073709551616 }
     ensures { Wrote out.old n out.new result (b ∷ []) }
 {
-    if n < out.len() {
-        out[n] = b;
-    }
-    n + 1
+    copy(out, n, &[b])
 }
 
 // A number in decimal, as its digits in a lent buffer.

@@ -1,5 +1,5 @@
-use Rattle.lines.proofs.Sink.{copied}
+use Rattle.lines.proofs.Sink.{copied-all}
 use Rattle.lines.proofs.pieces.copy.Goals as goal
 
 pub returns : goal.returns
-returns c = copied c.min-start.ensures c.min-end.ensures c.copy_from_slice.ensures.after
+returns c = copied-all c.min-start.ensures c.min.ensures c.loop-i.invariant c.loop-i-test.false
