@@ -17,8 +17,9 @@ fn named(texts: &Texts, out: &mut [u8], n: usize, before: &[u8], x: usize, after
     requires { (n < 1073741824) × (x < length (texts_of texts.now.tree.now)) × (length before.now ≤ 32) × (length after.now ≤ 128) }
     ensures { Said out.old n out.new result (before.now ++ (name_at (texts_of texts.now.tree.now) x ++ after.now)) 256 }
 {
+    let places = texts.places;
     let a = copy(out, n, before);
-    let b = copy(out, a, name_of(texts.tree, texts.places, x));
+    let b = copy(out, a, name_of(texts.tree, places, x));
     copy(out, b, after)
 }
 
@@ -27,7 +28,8 @@ fn operand(texts: &Texts, out: &mut [u8], n: usize, op: GateOperand) -> usize
     requires { (n < 2147483648) × (op.name < length (texts_of texts.now.tree.now)) }
     ensures { Said out.old n out.new result (operand_text (texts_of texts.now.tree.now) (operand_of op)) 160 }
 {
-    let a = copy(out, n, name_of(texts.tree, texts.places, op.name));
+    let places = texts.places;
+    let a = copy(out, n, name_of(texts.tree, places, op.name));
     match (op.index, op.slice) {
         (Some(i), _) => {
             let b = put(out, a, b'[');

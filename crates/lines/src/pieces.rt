@@ -11,7 +11,7 @@ ghost use Rattle.lines.specs.Texts.{Named, value_text, value_room};
 
 use super::{Expected, words};
 use ast::ClassicalType;
-use context::{Places, SymbolKind, Texts};
+use context::{SymbolKind, Texts};
 use itoa::Buffer;
 
 // A value in a text.
@@ -28,8 +28,9 @@ pub(crate) enum Value {
 }
 
 // The text with a number, as a part of the tree. `Readable` asks for the place of one text, a Texts for those of all.
+// The places as a slice, so that any number of them will do. Callers copy the reference to a variable: a field's is not lent as a slice.
 #[tactic(auto, unfolding(sema::specs::Messages::name_at))]
-pub fn name_of<'a>(tree: &'a [u8], places: &Places, x: usize) -> &'a [u8]
+pub fn name_of<'a>(tree: &'a [u8], places: &[usize], x: usize) -> &'a [u8]
     requires { Readable tree.now places.now x }
     ensures { Shown result.now (name_at (texts_of tree.now) x) 64 }
 {
@@ -93,8 +94,9 @@ fn piece<'a: 'b, 'b>(texts: &Texts<'a>, value: Value, digits: &'b mut Buffer) ->
     requires { Named (length (texts_of texts.now.tree.now)) value }
     ensures { Shown result.now (value_text (texts_of texts.now.tree.now) value) (value_room value) }
 {
+    let places = texts.places;
     match value {
-        Value::Name(x) => name_of(texts.tree, texts.places, x),
+        Value::Name(x) => name_of(texts.tree, places, x),
         Value::TypeName(ty) => words::type_name(ty),
         Value::KindName(kind) => words::kind_name(kind),
         Value::ExpectedName(expected) => words::expected_name(expected),

@@ -166,7 +166,8 @@ fn check_standard(sema: SemaContext<'_>, out: &mut [u8], call: Call, sink: Sink)
     requires { call.name < length (texts sema) }
     ensures { Emitted (texts sema.entry) (standard_of (texts sema.entry) call) sink out.old result out.new }
 {
-    let name = name_of(sema.texts.tree, sema.texts.places, call.name);
+    let places = sema.texts.places;
+    let name = name_of(sema.texts.tree, places, call.name);
     let Some(standard) = gates::standard_gate_signature(name) else {
         let message = Message::GateNotDefined(call.name);
         return report_call(sema, out, call, message, None, sink);
