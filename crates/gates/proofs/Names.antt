@@ -1,10 +1,11 @@
 -- A name of a known length, letter by letter, beside the gates of that length. Assumes nothing.
-use Rattle.std.proofs.Common.{◌≡◌, ℕ, zero, suc, ◌+◌, ◌<◌, List, [], ◌∷◌, Bool, true, false, cond, ◌&&◌, map, length, get_or, drop, eqb, None, refl, ap, ◌∙◌, arith}
+use Rattle.std.proofs.Common.{◌≡◌, ℕ, zero, suc, ◌+◌, ◌<◌, List, [], ◌∷◌, ◌++◌, ◌≤◌, take, set, Bool, true, false, cond, ◌&&◌, map, length, get_or, drop, eqb, None, refl, ap, sym, ◌∙◌, arith}
 use borrow.Author.Tests.{eq-eqb, ne_eqb, eqb-false}
-use Rattle.std.proofs.Math.ListN.{length-map}
+use Rattle.std.proofs.Math.ListN.{length-map, length-set}
 use Rattle.std.specs.Char.{to_ascii_lowercase}
 use Rattle.std.proofs.lemmas.Bool.Decides.{nat_tests}
-use Rattle.std.proofs.Math.Seq.{drop-cons, drop-length}
+use Rattle.std.proofs.Math.Seq.{drop-cons, drop-length, take-suc, take-length}
+use Rattle.std.proofs.lemmas.List.{take_more_set, map-append}
 use Rattle.text.specs.Text.{same}
 use Rattle.text.proofs.Same.{same-eq}
 use Rattle.gates.specs.Gates.{Gate, lower, gates, lookup, signature_of}
@@ -90,9 +91,34 @@ lower_is : (b : ℕ) → to_ascii_lowercase b ≡ lower b
 unfolding lower
 lower_is b = grind (arith, nat_tests)
 
-pub lowered_is : (n : List ℕ) → map to_ascii_lowercase n ≡ map lower n
-lowered_is [] = refl
-lowered_is (b ∷ n) = rw (lower_is b, lowered_is n)
+pub lowered_is : (b r : ℕ) → r ≡ to_ascii_lowercase b → r ≡ lower b
+lowered_is b r e = e ∙ lower_is b
 
 pub long_lowered : (n : List ℕ) → 6 < length n → signature_of (map lower n) ≡ None
 long_lowered n h = long (map lower n) (simp length-map h)
+
+-- the first i letters of a name lowered into l
+pub record Lowering (n l : List ℕ) (i : ℕ) : Type 0 where
+  pub size : length l ≡ length n
+  pub same : take i l ≡ map lower (take i n)
+
+pub lowering_start : (n l : List ℕ) → length l ≡ length n → Lowering n l 0
+lowering_start n l h = record { size = h; same = refl }
+
+pub lowering_more : (n l : List ℕ) (i : ℕ) → Lowering n l i → i < length n → Lowering n (set l i (lower (get_or n i 0))) (i + 1)
+lowering_more n l i w h =
+    let v = lower (get_or n i 0) in
+    record {
+      size = length-set l i v ∙ w.size;
+      same =
+          take_more_set l i v (omega (arith, w.size))
+          ∙ ap (λ (x : List ℕ). x ++ v ∷ []) w.same
+          ∙ sym (map-append lower (take i n) (get_or n i 0 ∷ []))
+          ∙ ap (map lower) (let e : i + 1 ≡ suc i = omega arith in rw e (sym (take-suc n i 0 h)));
+    }
+
+pub lowering_end : (n l : List ℕ) (i : ℕ) → Lowering n l i → i ≤ length n → length n ≤ i → l ≡ map lower n
+lowering_end n l i w g h =
+    let e : i ≡ length n = omega arith in
+    let f : i ≡ length l = omega (arith, w.size) in
+    sym (rw f (take-length l)) ∙ w.same ∙ rw e (ap (map lower) (take-length n))

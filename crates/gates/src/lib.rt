@@ -28,21 +28,23 @@ fn standard_gate(name: &[u8]) -> Option<StandardGate>
     Some(StandardGate { params, qubits })
 }
 
-// The letters A to Z lowered.
+// The letters A to Z lowered, other bytes as they are.
 #[tactic(auto, using(crate::proofs::Names::lowered_is))]
-fn lower_letters(name: &mut [u8])
-    ensures { name.new ≡ map lower name.old }
+fn lower_letter(b: u8) -> u8
+    ensures { result ≡ lower b }
 {
-    name.make_ascii_lowercase();
+    b.to_ascii_lowercase()
 }
 
+// Byte by byte: a copy of so many bytes is a call, and what it stores is waited for where more bytes are read at once.
 #[tactic(auto, using(crate::proofs::Names::long_lowered))]
 pub fn standard_gate_signature(name: &[u8]) -> Option<StandardGate>
     ensures { result ≡ signature_of (map lower name.now) }
 {
     let mut buffer = [0u8; 6];
     let lowered = buffer.get_mut(..name.len())?;
-    lowered.copy_from_slice(name);
-    lower_letters(lowered);
+    for (i, b) in name.iter().enumerate() {
+        lowered[i] = lower_letter(*b);
+    }
     standard_gate(lowered)
 }

@@ -136,15 +136,17 @@ fn is_quiet(sema: SemaContext<'_>, op: GateOperand, expected: Expected) -> bool
     kinds::fits(expected, symbol.kind) && Declared { op, symbol }.keeps_bounds()
 }
 
-// An operand of a gate call, a barrier or a delay. Of most there is nothing to say but of their use.
+// An operand of a gate call, a barrier or a delay. Of most there is nothing to say but of their use. That is checked by one call, so it
+// is compiled in here, and the context is not copied for it.
 fn use_operand(m: Measured<'_, '_>, out: &mut [u8], op: GateOperand, span: Span, sink: Sink) -> Sink
     requires { op.name < length (texts m.sema) }
     ensures { Emitted (texts m.entry.sema) (check_operand (scopes m.entry.sema) (operand_of op) a_qubit ++ check_use_after_measure (marks m.entry) (operand_of op) span) sink out.old result out.new }
 {
-    if is_quiet(m.sema, op, Expected::Qubit) {
-        return check_use_after_measure(m, out, op, span, sink);
-    }
-    let s = check_operand(m.sema, out, op, Expected::Qubit, sink);
+    let s = if is_quiet(m.sema, op, Expected::Qubit) {
+        sink
+    } else {
+        check_operand(m.sema, out, op, Expected::Qubit, sink)
+    };
     check_use_after_measure(m, out, op, span, s)
 }
 
