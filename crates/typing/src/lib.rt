@@ -54,7 +54,7 @@ enum Operator {
 // The arguments of a call against the parameters of the function x.
 #[cycle(check_arguments_check_call_check_expr)]
 fn check_arguments(
-    sema: SemaContext<'_>,
+    sema: &SemaContext<'_>,
     out: &mut [u8],
     at: usize,
     left: usize,
@@ -62,38 +62,70 @@ fn check_arguments(
     params: u8,
     sink: Sink,
 ) -> Sink
-    requires { (x < length (texts sema)) × (params ≡ length (params_of (functions sema x))) × IsOk (exprs (expr (texts sema) left) sema.texts.tree.now at) }
-    ensures { Emitted (texts sema.entry) (given [] (λ es. check_arguments (scopes sema.entry) (functions sema.entry) es x 0 (params_of (functions sema.entry x))) (exprs (expr (texts sema.entry) left) sema.entry.texts.tree.now at)) sink out.old result out.new }
+    requires { (x < length (texts sema.now)) × (params ≡ length (params_of (functions sema.now x))) × IsOk (exprs (expr (texts sema.now) left) sema.now.texts.tree.now at) }
+    ensures { Emitted (texts sema.now) (given [] (λ es. check_arguments (scopes sema.now) (functions sema.now) es x 0 (params_of (functions sema.now x))) (exprs (expr (texts sema.now) left) sema.now.texts.tree.now at)) sink out.old result out.new }
 {
     let mut k = at + 1;
     let mut s = sink;
     for i in 0..sema.texts.tree[at] {
-        let t = check_expr(sema, out, k, left, s);
-        s = calls::check_argument(sema, out, x, params, i, t);
+        let t = check_expr_in(sema, out, k, left, s);
+        s = calls::check_argument(*sema, out, x, params, i, t);
         k = t.next;
     }
     s
 }
 
 #[cycle(check_arguments_check_call_check_expr)]
-fn check_call(sema: SemaContext<'_>, out: &mut [u8], at: usize, left: usize, sink: Sink) -> Typing
-    requires { IsOk (expr (texts sema) left sema.texts.tree.now at) × (get_or sema.texts.tree.now at 0 ≡ 5) }
-    ensures { TypingOf (texts sema.entry) (scopes sema.entry) (functions sema.entry) (expr (texts sema.entry) left sema.entry.texts.tree.now at) sink out.old result out.new }
+fn check_call(sema: &SemaContext<'_>, out: &mut [u8], at: usize, left: usize, sink: Sink) -> Typing
+    requires { IsOk (expr (texts sema.now) left sema.now.texts.tree.now at) × (get_or sema.now.texts.tree.now at 0 ≡ 5) }
+    ensures { TypingOf (texts sema.now) (scopes sema.now) (functions sema.now) (expr (texts sema.now) left sema.now.texts.tree.now at) sink out.old result out.new }
 {
     let x = u16_at(sema.texts.tree, at + 1);
     let end = skip_exprs(sema.texts.tree, at + 3, left - 1);
     let span = span_at(sema.texts.tree, end);
     let next = end + 8;
     let n = sema.texts.tree[at + 3];
-    let f = calls::check_callee(sema, out, x, n, span, sink);
+    let f = calls::check_callee(*sema, out, x, n, span, sink);
     let params = f.sig.map_or(0, |sig| sig.param_count);
     let sink = check_arguments(sema, out, at + 3, left - 1, x, params, f.sink);
     let typed = f.sig.map(|sig| sig.return_type);
     Typing { typed, next, sink }
 }
 
-// Validate an expression and return its inferred classical type.
+// Validate an expression and return its inferred classical type. The context is lent: by value it would be copied at each level.
 #[cycle(check_arguments_check_call_check_expr)]
+fn check_expr_in(
+    sema: &SemaContext<'_>,
+    out: &mut [u8],
+    at: usize,
+    left: usize,
+    sink: Sink,
+) -> Typing
+    requires { IsOk (expr (texts sema.now) left sema.now.texts.tree.now at) }
+    ensures { TypingOf (texts sema.now) (scopes sema.now) (functions sema.now) (expr (texts sema.now) left sema.now.texts.tree.now at) sink out.old result out.new }
+{
+    // By the case byte: an enum with a conversion would say each case twice.
+    match sema.texts.tree[at] {
+        0 => cases::has_type(ClassicalType::Int, at + 17, sink),
+        1 => cases::has_type(ClassicalType::Float, at + 11, sink),
+        2 => cases::has_type(ClassicalType::Bool, at + 10, sink),
+        3 => cases::check_ident(*sema, out, at, sink),
+        4 => cases::check_index(*sema, out, at, sink),
+        5 => check_call(sema, out, at, left, sink),
+        6 => cases::has_type(ClassicalType::Float, at + 10, sink),
+        7 => {
+            let t = check_expr_in(sema, out, at + 1, left - 1, sink);
+            cases::negation(*sema, out, t)
+        }
+        _ => {
+            let l = check_expr_in(sema, out, at + 2, left - 1, sink);
+            let r = check_expr_in(sema, out, l.next, left - 1, l.sink);
+            let operator = cases::operator(sema.texts.tree[at]);
+            cases::operation(*sema, out, operator, l.typed, r)
+        }
+    }
+}
+
 pub fn check_expr(
     sema: SemaContext<'_>,
     out: &mut [u8],
@@ -104,26 +136,7 @@ pub fn check_expr(
     requires { IsOk (expr (texts sema) left sema.texts.tree.now at) }
     ensures { TypingOf (texts sema.entry) (scopes sema.entry) (functions sema.entry) (expr (texts sema.entry) left sema.entry.texts.tree.now at) sink out.old result out.new }
 {
-    // By the case byte: an enum with a conversion would say each case twice.
-    match sema.texts.tree[at] {
-        0 => cases::has_type(ClassicalType::Int, at + 17, sink),
-        1 => cases::has_type(ClassicalType::Float, at + 11, sink),
-        2 => cases::has_type(ClassicalType::Bool, at + 10, sink),
-        3 => cases::check_ident(sema, out, at, sink),
-        4 => cases::check_index(sema, out, at, sink),
-        5 => check_call(sema, out, at, left, sink),
-        6 => cases::has_type(ClassicalType::Float, at + 10, sink),
-        7 => {
-            let t = check_expr(sema, out, at + 1, left - 1, sink);
-            cases::negation(sema, out, t)
-        }
-        _ => {
-            let l = check_expr(sema, out, at + 2, left - 1, sink);
-            let r = check_expr(sema, out, l.next, left - 1, l.sink);
-            let operator = cases::operator(sema.texts.tree[at]);
-            cases::operation(sema, out, operator, l.typed, r)
-        }
-    }
+    check_expr_in(&sema, out, at, left, sink)
 }
 
 // An expression whose type must be as it is wanted.

@@ -5,13 +5,13 @@ use Rattle.typing.proofs.Arguments.{Arguing}
 use Rattle.typing.proofs.+check_arguments_check_call_check_expr.Given as goal
 
 abbrev pub decreases-check_arguments : goal.decreases-check_arguments
-decreases-check_arguments l = 2 * (length l.sema.texts.tree.now - l.at)
+decreases-check_arguments l = 2 * (length l.sema.now.texts.tree.now - l.at)
 
 abbrev pub decreases-check_call : goal.decreases-check_call
-decreases-check_call l = 2 * (length l.sema.texts.tree.now - l.at)
+decreases-check_call l = 2 * (length l.sema.now.texts.tree.now - l.at)
 
-abbrev pub decreases-check_expr : goal.decreases-check_expr
-decreases-check_expr l = 2 * (length l.sema.texts.tree.now - l.at) + 1
+abbrev pub decreases-check_expr_in : goal.decreases-check_expr_in
+decreases-check_expr_in l = 2 * (length l.sema.now.texts.tree.now - l.at) + 1
 
 abbrev pub invariant-check_arguments-loop-i : goal.invariant-check_arguments-loop-i
 invariant-check_arguments-loop-i l =
