@@ -92,7 +92,7 @@ fn check_call(sema: &SemaContext<'_>, out: &mut [u8], at: usize, left: usize, si
     Typing { typed, next, sink }
 }
 
-// Validate an expression and return its inferred classical type. The context is lent: by value it would be copied at each level.
+// `check_expr`, the context lent: by value it would be copied at each level.
 #[cycle(check_arguments_check_call_check_expr)]
 fn check_expr_in(
     sema: &SemaContext<'_>,
@@ -126,6 +126,7 @@ fn check_expr_in(
     }
 }
 
+// Validate an expression and return its inferred classical type.
 pub fn check_expr(
     sema: SemaContext<'_>,
     out: &mut [u8],
