@@ -40,7 +40,7 @@ pub fn name_of<'a>(tree: &'a [u8], places: &[usize], x: usize) -> &'a [u8]
 }
 
 // Stores a piece from n on, as far as there is room.
-// Byte by byte: copy_from_slice would bring memmove, which nothing else in the archive for C needs.
+// Byte by byte: copy_from_slice is compiled to memmove here, which nothing else in the archive for C needs.
 pub(crate) fn copy(out: &mut [u8], n: usize, s: &[u8]) -> usize
     requires { n + length s.now < 18446744073709551616 }
     ensures { Wrote out.old n out.new result s.now }
@@ -54,7 +54,7 @@ pub(crate) fn copy(out: &mut [u8], n: usize, s: &[u8]) -> usize
     n + s.len()
 }
 
-// Stores one byte, where there is room: by `copy`, since nothing else stores into the lines.
+// Stores one byte, where there is room: by `copy`, by which every byte of a line is stored.
 pub(crate) fn put(out: &mut [u8], n: usize, b: u8) -> usize
     requires { n + 1 < 18446744073709551616 }
     ensures { Wrote out.old n out.new result (b ∷ []) }

@@ -34,7 +34,9 @@ fn complaint(wanted: Wanted, actual: ClassicalType) -> Message
     }
 }
 
-// An expression that was just checked; its span stands in its last 8 bytes.
+// An expression that was just checked; its span stands in its last 8 bytes. Compiled into its callers: most types are as they are wanted,
+// and a call would copy the context.
+#[inline(always)]
 pub fn check_wanted(sema: SemaContext<'_>, out: &mut [u8], wanted: Wanted, t: Typing) -> Sink
     requires { NamedBelow (length (texts sema)) wanted × (8 ≤ t.next) × (t.next ≤ length sema.texts.tree.now) }
     ensures { Emitted (texts sema.entry) (unmet wanted (span_at sema.entry.texts.tree.now (t.next - 8)) (typed_of t.typed)) t.sink out.old result out.new }
