@@ -118,3 +118,7 @@ module _ (p : Program) where
   pub told : (s o : List ℕ) (r : Option Sink) (s' o' : List ℕ) → Ran p 0 s o r s' o' → length o' ≡ length o → (x : Refused) → x ≡ record { refusal = ManyKeys; place = 0 } → Told p (ok_or r x) o'
   told s o None s' o' w e x f = (w.said, f)
   told s o (Some r) s' o' w e x f = record { few = w.said.0; learnt = learnt s o r s' o' w; staged = staged s o r s' o' w e }
+
+  -- of a value that is worked out from what the run gave, and is equal to it
+  pub told_as : (s o : List ℕ) (r : Option Sink) (s' o' : List ℕ) → Ran p 0 s o r s' o' → length o' ≡ length o → (x : Refused) → x ≡ record { refusal = ManyKeys; place = 0 } → (q : Option Sink) → q ≡ r → Told p (ok_or q x) o'
+  told_as s o r s' o' w e x f q g = rw g (told s o r s' o' w e x f)
